@@ -1,0 +1,2 @@
+-- What the rows' proofs share.
+pub mod Rows

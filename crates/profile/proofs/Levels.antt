@@ -1,0 +1,161 @@
+-- The laws of levels. A level from -1 up is `levelOf b`, b being its level byte, and its cover limit is 2 ^ b. Assumes nothing.
+use mathlib.Core.Path.{_≡_, refl, sym, ap, _∙_, subst}
+use mathlib.Core.Logic.{_↔_}
+use Prim.Native.Nat.{ℕ, zero, suc, _+_, _-_, _*_, _/_, _^_, _≤_, _<_}
+use native.Mathlib.Nat.{pow-suc, le-antisymm, mul-le-mul-left, zero-mul, lt-of-not-le}
+use native.Mathlib.Omega.{arith}
+use native.Mathlib.Decide.{decLe}
+use lib.IntN.{ℤ, pos, negsuc, sucℤ, predℤ, _-ℤ_}
+use lib.Pow.{pow-pos, pow-mono}
+use Rattle.profile.specs.Level.{_>2^_, _≤2^_, Fitting, levelOf, bits, bitLength, fittingLevel, coverLimit, reach, Printed}
+use Rattle.profile.proofs.Signs.{same, less-up, less-down}
+
+-- ---- the cover limit, and the powers compared by it
+
+pub cover-byte : (b : ℕ) → coverLimit (levelOf b) ≡ 2 ^ b
+unfolding coverLimit
+cover-byte zero = refl
+cover-byte (suc b) = refl
+
+pub reach-byte : (b : ℕ) → reach (levelOf b) ≡ 2 ^ b - 1
+unfolding reach
+reach-byte b = ap (λ (n : ℕ). n - 1) (cover-byte b)
+
+-- a level whose cover limit is not 0 is one from -1 up
+pub byte-of : (e : ℤ) → 0 < coverLimit e → (b : ℕ) × (e ≡ levelOf b)
+unfolding coverLimit
+byte-of (pos n) h = (suc n, refl)
+byte-of (negsuc zero) h = (zero, refl)
+byte-of (negsuc (suc n)) h = absurd (omega arith)
+
+doubled : (d k : ℕ) → 2 * d ≤ d * 2 ^ suc k
+doubled d k = omega (arith, mul-le-mul-left d (pow-mono {i = 1} {j = suc k} (omega arith)))
+
+-- d > 2 ^ e, doubled on both sides
+pub more-than : (d : ℕ) (e : ℤ) → d >2^ e ↔ (coverLimit e < 2 * d)
+unfolding _>2^_ coverLimit
+more-than d (pos e) = (λ h. omega (arith, pow-suc 2 e), λ h. omega (arith, pow-suc 2 e))
+more-than d (negsuc zero) = (λ h. omega arith, λ h. omega arith)
+more-than zero (negsuc (suc k)) = (λ h. absurd (omega (arith, zero-mul (2 ^ suc (suc k)))), λ h. absurd (omega arith))
+more-than (suc d) (negsuc (suc k)) = (λ h. omega arith, λ h. omega (arith, doubled (suc d) (suc k)))
+
+-- d ≤ 2 ^ (e + 1)
+pub at-most : (d : ℕ) (e : ℤ) → d ≤2^ sucℤ e ↔ (d ≤ coverLimit e)
+unfolding _≤2^_ coverLimit
+at-most d (pos e) = (λ h. h, λ h. h)
+at-most d (negsuc zero) = (λ h. omega arith, λ h. omega arith)
+at-most zero (negsuc (suc k)) = (λ h. omega arith, λ h. omega (arith, zero-mul (2 ^ suc k)))
+at-most (suc d) (negsuc (suc k)) = (λ h. absurd (omega (arith, doubled (suc d) k)), λ h. absurd (omega arith))
+
+-- ---- the fitting level
+
+-- said of the level's byte
+pub fitting-byte : (d b : ℕ) → 2 ^ b < 2 * d → d ≤ 2 ^ b → Fitting d (levelOf b)
+fitting-byte d b h k = record {
+  above = more-than d (levelOf b) .1 (omega (arith, cover-byte b));
+  within = at-most d (levelOf b) .1 (omega (arith, cover-byte b));
+}
+
+module _ {d : ℕ} {e : ℤ} (f : Fitting d e) where
+  pub fitting-above : coverLimit e < 2 * d
+  fitting-above = more-than d e .0 (f .above)
+
+  pub fitting-within : d ≤ coverLimit e
+  fitting-within = at-most d e .0 (f .within)
+
+  -- the byte of a fitting level
+  pub fitting-of : (b : ℕ) × (e ≡ levelOf b) × (2 ^ b < 2 * d) × (d ≤ 2 ^ b)
+  fitting-of =
+      let s = byte-of e (omega (arith, fitting-above, fitting-within)) in
+      let c : coverLimit e ≡ 2 ^ s .0 = ap coverLimit (s .1) ∙ cover-byte (s .0) in
+      (s .0, s .1, omega (arith, fitting-above, c), omega (arith, fitting-within, c))
+
+-- a power below the double of another is at most that other
+pow-under : (m n : ℕ) → 2 ^ m < 2 * 2 ^ n → m ≤ n
+pow-under m n h = go (decLe m n)
+  where
+    go : Dec (m ≤ n) → m ≤ n
+    go (yes p) = p
+    go (no q) = let k : suc n ≤ m = lt-of-not-le q in absurd (omega (arith, pow-mono k, pow-suc 2 n))
+
+-- a distance has one fitting level
+pub fitting-one : (d : ℕ) (e e′ : ℤ) → Fitting d e → Fitting d e′ → e ≡ e′
+fitting-one d e e′ f g =
+    let s = fitting-of f in let t = fitting-of g in
+    s .1
+    ∙ ap levelOf (le-antisymm (pow-under (s .0) (t .0) (omega (arith, s .2, t .3))) (pow-under (t .0) (s .0) (omega (arith, t .2, s .3))))
+    ∙ sym (t .1)
+
+-- n takes `bits` bits: it is below 2 ^ bits, and not below half of that
+bits-under : (k n : ℕ) → n ≤ k → n < 2 ^ bits k n
+unfolding bits
+bits-under zero n h = omega arith
+bits-under (suc k) zero h = omega arith
+bits-under (suc k) (suc n) h =
+    let half = suc n / 2 in
+    omega (arith, bits-under k half (omega arith), pow-suc 2 (bits k half))
+
+bits-double : (k half n : ℕ) → (0 < half → 2 ^ bits k half ≤ 2 * half) → 2 * half ≤ suc n → 2 ^ suc (bits k half) ≤ 2 * suc n
+unfolding bits
+bits-double zero half n f h = omega arith
+bits-double (suc k) zero n f h = omega arith
+bits-double (suc k) (suc m) n f h = omega (arith, f (omega arith), pow-suc 2 (bits (suc k) (suc m)))
+
+bits-over : (k n : ℕ) → 0 < n → 2 ^ bits k n ≤ 2 * n
+unfolding bits
+bits-over zero n h = omega arith
+bits-over (suc k) zero h = absurd (omega arith)
+bits-over (suc k) (suc n) h = bits-double k (suc n / 2) n (bits-over k (suc n / 2)) (omega arith)
+
+bits-length : (n : ℕ) → 2 ^ bitLength n ≤ 2 * n + 1
+unfolding bits
+bits-length zero = omega arith
+bits-length (suc n) = omega (arith, bits-over (suc n) (suc n) (omega arith))
+
+-- the level worked out fits
+pub fitting-is : (d : ℕ) → 0 < d → Fitting d (fittingLevel d)
+unfolding fittingLevel
+fitting-is d h = fitting-byte d (bitLength (d - 1)) (omega (arith, bits-length (d - 1))) (omega (arith, bits-under (d - 1) (d - 1) (omega arith)))
+
+-- so exactly one level fits each distance from 1 up
+pub fitting-exactly : (d : ℕ) (e : ℤ) → 0 < d → Fitting d e ↔ (e ≡ fittingLevel d)
+fitting-exactly d e h = (
+  λ f. fitting-one d e (fittingLevel d) f (fitting-is d h),
+  λ p. rw p (fitting-is d h),
+)
+
+-- by the leading zeros, of 32, of d - 1, which is `byte` bits long
+pub fitting-leading : (d zeros byte : ℕ) → 0 < d → zeros + byte ≡ 32 → d - 1 < 2 ^ byte → 2 ^ byte ≤ 2 * (d - 1) + 1 → pos 31 -ℤ pos zeros ≡ fittingLevel d
+fitting-leading d zeros byte h e k l =
+    less zeros byte e ∙ fitting-one d (levelOf byte) (fittingLevel d) (fitting-byte d byte (omega arith) (omega arith)) (fitting-is d h)
+  where
+    less : (zeros byte : ℕ) → zeros + byte ≡ 32 → pos 31 -ℤ pos zeros ≡ levelOf byte
+    less zeros zero e =
+        same (pos 31 -ℤ pos zeros) (levelOf zero) (omega (arith, less-up (pos 31) (pos zeros))) (omega (arith, less-down (pos 31) (pos zeros)))
+    less zeros (suc b) e =
+        same (pos 31 -ℤ pos zeros) (pos b) (omega (arith, less-up (pos 31) (pos zeros))) (omega (arith, less-down (pos 31) (pos zeros)))
+
+-- ---- why source document 003's level was left
+
+-- each distance from 1 up has a level by the printed rule
+pub printed-some : (d : ℕ) → 0 < d → (e : ℤ) × Printed d e
+unfolding bits
+printed-some zero h = absurd (omega arith)
+printed-some (suc n) h =
+    let log = bits n (suc n / 2) in (
+      levelOf log,
+      record {
+        log = log;
+        least = omega (arith, bits-over (suc n) (suc n) h, pow-suc 2 log);
+        next = bits-under (suc n) (suc n) (omega arith);
+        level = refl;
+      },
+    )
+
+-- it fits exactly where the distance is a power of two
+pub printed-fits : (d : ℕ) (e : ℤ) → Printed d e → Fitting d e ↔ ((k : ℕ) × (d ≡ 2 ^ k))
+printed-fits d e p = (
+  λ f. (p .log, omega (arith, fitting-within f, ap coverLimit (p .level), cover-byte (p .log))),
+  λ k. rw (p .level) (fitting-byte d (p .log) (omega (arith, pow-pos (p .log)))
+      (omega (arith, pow-mono (pow-under (k .0) (p .log) (omega (arith, k .1, pow-suc 2 (p .log)))), k .1))),
+)

@@ -1,0 +1,25 @@
+//! Links the proved archive, and compiles the plain C that it is measured beside.
+use std::{env, path::Path, process::Command};
+
+fn main() {
+    let here = env::var("CARGO_MANIFEST_DIR").expect("cargo names the package's folder");
+    let made = Path::new(&here).join("../../target/staticlib");
+    if !made.join("libbench.a").exists() {
+        println!("cargo:warning=no libbench.a: run `rt staticlib bench` first, or rust/bench/run, which does");
+    }
+    println!("cargo:rerun-if-changed={}", made.join("libbench.a").display());
+    println!("cargo:rustc-link-search=native={}", made.display());
+    println!("cargo:rustc-link-lib=static=bench");
+
+    let out = env::var("OUT_DIR").expect("cargo names a folder for output");
+    println!("cargo:rerun-if-changed=plain.c");
+    run(Command::new("gcc").args(["-O3", "-std=c11", "-Wall", "-Wextra", "-Werror", "-c", "plain.c", "-o"]).arg(format!("{out}/plain.o")));
+    run(Command::new("ar").arg("crs").arg(format!("{out}/libplain.a")).arg(format!("{out}/plain.o")));
+    println!("cargo:rustc-link-search=native={out}");
+    println!("cargo:rustc-link-lib=static=plain");
+}
+
+fn run(command: &mut Command) {
+    let ended = command.status().unwrap_or_else(|e| panic!("{command:?}: {e}"));
+    assert!(ended.success(), "{command:?}: {ended}");
+}
