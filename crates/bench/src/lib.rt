@@ -14,7 +14,7 @@ pub extern "C" fn kwb_level(d: u32) -> i32
     requires { ⌜ 0 < d ⌝ }
     ensures { λ r. ⌜ r ≡ fittingLevel d ⌝ }
 {
-    profile::level::fitting(d)
+    profile::level::fitting_level(d)
 }
 
 // The distance of two lists of wells.

@@ -4,7 +4,7 @@ ghost use Prim.Native.Nat.{_<_};
 ghost use Rattle.profile.specs.Level.{fittingLevel};
 
 // The level e with 2^e < d <= 2^(e+1): the bit length of d - 1, less 1. At d = 1 it is -1.
-pub fn fitting(d: u32) -> i32
+pub fn fitting_level(d: u32) -> i32
     requires { ⌜ 0 < d ⌝ }
     ensures { λ r. ⌜ r ≡ fittingLevel d ⌝ }
 {

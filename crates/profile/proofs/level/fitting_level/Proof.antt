@@ -1,4 +1,4 @@
--- `level::fitting` meets its contract. `leading-length` gives the length of d - 1 in bits, which is the level's byte. Assumes nothing.
+-- `level::fitting_level` meets its contract. `leading-length` gives the length of d - 1 in bits, which is the level's byte. Assumes nothing.
 use mathlib.Core.Path.{_≡_}
 use Prim.Native.Nat.{ℕ, _-_}
 use native.Mathlib.Omega.{arith}
@@ -10,8 +10,8 @@ use mir.Val.{SFits, toZ, ofZ}
 use mir.ValLaws.{toZ-pos, toZ-ofZ}
 use Rattle.profile.proofs.Signs.{fits-in, less-up, less-down}
 use Rattle.profile.proofs.Levels.{fitting-leading}
-use Rattle.profile.proofs.level.fitting.Statement.{statement}
-use Rattle.profile.proofs.level.fitting.Tie as tie
+use Rattle.profile.proofs.level.fitting_level.Statement.{statement}
+use Rattle.profile.proofs.level.fitting_level.Tie as tie
 
 -- of any number: its count of leading zeros fits, and so does 31 less that, which reads back as it is
 module _ (a : ℕ) where
@@ -44,5 +44,5 @@ returns c =
     let s = leading-length 32 (d - 1) (omega arith) in
     rw less-read (fitting-leading d (leadingZeros 32 (d - 1)) (s .0) (c .pre) (s .1) (s .2) (s .3))
 
-pub fitting-spec : {M : Type 1} → statement M
-fitting-spec = tie.close (tie.spec (λ c. search needs) cast-result sub-result-2 returns)
+pub fitting-level-spec : {M : Type 1} → statement M
+fitting-level-spec = tie.close (tie.spec (λ c. search needs) cast-result sub-result-2 returns)
