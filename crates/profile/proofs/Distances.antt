@@ -8,7 +8,7 @@ use native.Mathlib.Omega.{arith}
 use lib.IntN.{ℤ}
 use lib.ListN.{length, getD, drop, drop-of-length-le}
 use lib.Seq.{drop-cons}
-use Rattle.profile.specs.Distance.{Wells, none, well, Profile, gap, joined, cityBlock, largest, distance}
+use Rattle.profile.specs.Distance.{Wells, well, Profile, gap, joined, cityBlock, largest, distance}
 use Rattle.profile.specs.Metric.{Metric}
 use Rattle.profile.proofs.Wells.{gap-self, gap-symmetric, gap-triangle, gap-apart, gap-bound}
 

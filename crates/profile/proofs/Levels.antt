@@ -1,11 +1,11 @@
 -- The laws of levels. A level from -1 up is `levelOf b`, b being its level byte, and its cover limit is 2 ^ b. Assumes nothing.
-use mathlib.Core.Path.{_≡_, refl, sym, ap, _∙_, subst}
+use mathlib.Core.Path.{_≡_, refl, sym, ap, _∙_}
 use mathlib.Core.Logic.{_↔_}
 use Prim.Native.Nat.{ℕ, zero, suc, _+_, _-_, _*_, _/_, _^_, _≤_, _<_}
 use native.Mathlib.Nat.{pow-suc, le-antisymm, mul-le-mul-left, zero-mul, lt-of-not-le}
 use native.Mathlib.Omega.{arith}
 use native.Mathlib.Decide.{decLe}
-use lib.IntN.{ℤ, pos, negsuc, sucℤ, predℤ, _-ℤ_}
+use lib.IntN.{ℤ, pos, negsuc, sucℤ, _-ℤ_}
 use lib.Pow.{pow-pos, pow-mono}
 use Rattle.profile.specs.Level.{_>2^_, _≤2^_, Fitting, levelOf, bits, bitLength, fittingLevel, coverLimit, reach, Printed}
 use Rattle.profile.proofs.Signs.{same, less-up, less-down}

@@ -1,6 +1,6 @@
 -- Levels: whole numbers that may be negative, and the powers of two that go with them. Assumes nothing.
 use mathlib.Core.Path.{_≡_}
-use Prim.Native.Nat.{ℕ, zero, suc, _+_, _-_, _*_, _/_, _^_, _≤_, _<_}
+use Prim.Native.Nat.{ℕ, zero, suc, _-_, _*_, _/_, _^_, _≤_, _<_}
 use lib.IntN.{ℤ, pos, negsuc, sucℤ, predℤ}
 
 infix 50 _>2^_ _≤2^_

@@ -1,10 +1,10 @@
 -- `lists::city_block` meets its contract. The sum so far and the city block of the wells left make the whole. Assumes nothing.
 use mathlib.Core.Path.{_≡_}
-use Prim.Native.Nat.{ℕ, _+_, _-_, _*_, _≤_, _<_}
+use Prim.Native.Nat.{_+_, _-_, _*_, _≤_}
 use native.Mathlib.Omega.{arith}
 use borrow.Author.Needs.{needs, sfits-of}
 use lib.IntN.{pos}
-use lib.ListN.{length, drop, getD}
+use lib.ListN.{drop, getD}
 use mir.Syntax.{w16}
 use mir.Val.{SFits}
 use mir.ValLaws.{toZ-ofZ}
@@ -12,9 +12,6 @@ use Rattle.profile.specs.Distance.{gap, cityBlock}
 use Rattle.profile.proofs.Distances.{joined-step, joined-end}
 use Rattle.profile.proofs.lists.city_block.Statement.{statement}
 use Rattle.profile.proofs.lists.city_block.Tie as tie
-use Rattle.profile.proofs.lists.city_block.Reads as reads
-use Rattle.profile.proofs.lists.city_block.Lts as lts
-use Rattle.profile.proofs.well.difference.Reads as difference-reads
 
 abbrev Inv-loop : tie.InvT-loop
 Inv-loop a b wells sum₀ i₀ sum i = (i ≤ wells) × (sum ≤ 65535 * i) × (sum + cityBlock (drop i a) (drop i b) ≡ cityBlock a b)

@@ -1,10 +1,10 @@
 -- `lists::largest` meets its contract. The larger of the most so far and the largest difference of the wells left is that of all. Assumes nothing.
 use mathlib.Core.Path.{_≡_}
-use Prim.Native.Nat.{ℕ, _+_, _-_, _*_, _≤_, _<_, max}
+use Prim.Native.Nat.{_-_, _≤_, max}
 use native.Mathlib.Omega.{arith}
 use borrow.Author.Needs.{needs, sfits-of}
 use lib.IntN.{pos}
-use lib.ListN.{length, drop, getD}
+use lib.ListN.{drop, getD}
 use mir.Syntax.{w16}
 use mir.Val.{SFits}
 use mir.ValLaws.{toZ-ofZ}
@@ -12,9 +12,6 @@ use Rattle.profile.specs.Distance.{gap, largest}
 use Rattle.profile.proofs.Distances.{joined-step, joined-end}
 use Rattle.profile.proofs.lists.largest.Statement.{statement}
 use Rattle.profile.proofs.lists.largest.Tie as tie
-use Rattle.profile.proofs.lists.largest.Reads as reads
-use Rattle.profile.proofs.lists.largest.Lts as lts
-use Rattle.profile.proofs.well.difference.Reads as difference-reads
 
 abbrev Inv-loop : tie.InvT-loop
 Inv-loop a b wells most₀ i₀ most i = (i ≤ wells) × (most ≤ 65535) × (max most (largest (drop i a) (drop i b)) ≡ largest a b)

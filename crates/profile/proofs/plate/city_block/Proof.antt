@@ -1,10 +1,10 @@
 -- `plate::city_block` meets its contract. The sum so far and the city block of the wells left make the whole. Assumes nothing.
 use mathlib.Core.Path.{_≡_}
-use Prim.Native.Nat.{ℕ, _+_, _-_, _*_, _≤_, _<_}
+use Prim.Native.Nat.{_+_, _-_, _*_, _≤_}
 use native.Mathlib.Omega.{arith}
 use borrow.Author.Needs.{needs, sfits-of}
 use lib.IntN.{pos}
-use lib.ListN.{length, drop, getD}
+use lib.ListN.{drop, getD}
 use mir.Syntax.{w16}
 use mir.Val.{SFits}
 use mir.ValLaws.{toZ-ofZ}
@@ -14,8 +14,6 @@ use Rattle.profile.proofs.Distances.{joined-step, joined-end}
 use Rattle.profile.proofs.Reading.{wells-length, wells-well}
 use Rattle.profile.proofs.plate.city_block.Statement.{statement}
 use Rattle.profile.proofs.plate.city_block.Tie as tie
-use Rattle.profile.proofs.plate.city_block.Reads as reads
-use Rattle.profile.proofs.plate.city_block.Lts as lts
 
 abbrev Inv-loop : tie.InvT-loop
 Inv-loop image at plate wells sum₀ i₀ sum i =

@@ -1,10 +1,10 @@
 -- `plate::largest` meets its contract. The larger of the most so far and the largest difference of the wells left is that of all. Assumes nothing.
 use mathlib.Core.Path.{_≡_}
-use Prim.Native.Nat.{ℕ, _+_, _-_, _*_, _≤_, _<_, max}
+use Prim.Native.Nat.{_-_, _≤_, max}
 use native.Mathlib.Omega.{arith}
 use borrow.Author.Needs.{needs, sfits-of}
 use lib.IntN.{pos}
-use lib.ListN.{length, drop, getD}
+use lib.ListN.{drop, getD}
 use mir.Syntax.{w16}
 use mir.Val.{SFits}
 use mir.ValLaws.{toZ-ofZ}
@@ -14,8 +14,6 @@ use Rattle.profile.proofs.Distances.{joined-step, joined-end}
 use Rattle.profile.proofs.Reading.{wells-length, wells-well}
 use Rattle.profile.proofs.plate.largest.Statement.{statement}
 use Rattle.profile.proofs.plate.largest.Tie as tie
-use Rattle.profile.proofs.plate.largest.Reads as reads
-use Rattle.profile.proofs.plate.largest.Lts as lts
 
 abbrev Inv-loop : tie.InvT-loop
 Inv-loop image at plate wells most₀ i₀ most i =

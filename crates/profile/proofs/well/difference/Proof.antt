@@ -1,23 +1,20 @@
 -- `well::difference` meets its contract. A signed local holds bits, so what is read of it is `toZ w (ofZ w z)`, which is z where z fits (`as-wide`).
 -- Both arms take the smaller well from the larger: `Less` says what that needs, once. Assumes nothing.
 use mathlib.Core.Path.{_≡_, refl}
-use mathlib.Core.Bool.{Bool, true, false}
-use Prim.Native.Nat.{ℕ, _+_, _≤_}
+use mathlib.Core.Bool.{true, false}
+use Prim.Native.Nat.{_+_, _≤_}
 use native.Mathlib.Omega.{arith}
-use borrow.Author.Needs.{needs}
 use lib.Dec.{T}
-use lib.IntN.{ℤ, pos, _-ℤ_, natAbs}
+use lib.IntN.{ℤ, _-ℤ_, natAbs}
 use lib.Signed.{ltZ, nonNeg}
 use mir.Syntax.{w16, w32}
 use mir.Val.{SFits, Fits, toZ, ofZ}
 use mir.ValLaws.{toZ-ofZ}
 use Rattle.profile.specs.Distance.{gap}
-use Rattle.profile.proofs.Wells.{gap-symmetric, gap-bound}
-use Rattle.profile.proofs.Signs.{up, down, wider, fits-in, fits-up, fits-down, less-up, less-down, abs-is, to-unsigned, lt-yes, lt-no}
+use Rattle.profile.proofs.Wells.{gap-symmetric}
+use Rattle.profile.proofs.Signs.{up, down, wider, fits-in, fits-up, fits-down, less-up, less-down, to-unsigned, lt-yes, lt-no}
 use Rattle.profile.proofs.well.difference.Statement.{statement}
 use Rattle.profile.proofs.well.difference.Tie as tie
-use Rattle.profile.proofs.well.difference.Reads as reads
-use Rattle.profile.proofs.well.difference.Lts as lts
 
 -- a well, read back at 32 bits
 abbrev wide : ℤ → ℤ
