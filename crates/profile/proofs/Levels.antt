@@ -63,6 +63,10 @@ module _ {d : ℕ} {e : ℤ} (f : Fitting d e) where
   pub fitting-within : d ≤ coverLimit e
   fitting-within = at-most d e .0 (f .within)
 
+  -- so a level fits no distance 0
+  pub fitting-positive : 0 < d
+  fitting-positive = omega (arith, fitting-above)
+
   -- the byte of a fitting level
   pub fitting-of : (b : ℕ) × (e ≡ levelOf b) × (2 ^ b < 2 * d) × (d ≤ 2 ^ b)
   fitting-of =

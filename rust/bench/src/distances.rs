@@ -53,7 +53,7 @@ fn same<T: PartialEq + std::fmt::Debug, const N: usize>(what: &dyn Fn() -> Strin
 pub fn time(random: &mut Random, n: usize, rounds: usize) {
     println!("{:<28} {:>6} {:>6} {:>8} {:>14} {:>11}", "one distance of", "metric", "wells", "ns", "/ plain Rust", "/ plain C");
     for metric in [1, 2] {
-        for w in [1, 4, 8, 16] {
+        for w in [1, 4, 5, 8, 12, 16] {
             let wells: Vec<i16> = (0..n * w).map(|_| random.well()).collect();
             let image = bytes_of(&wells);
             // nothing is nearer than 0, so that each row is looked at to its end; no compiler may know it
