@@ -12,9 +12,16 @@ fn main() {
     println!("cargo:rustc-link-lib=static=bench");
 
     let out = env::var("OUT_DIR").expect("cargo names a folder for output");
-    println!("cargo:rerun-if-changed=plain.c");
-    run(Command::new("gcc").args(["-O3", "-std=c11", "-Wall", "-Wextra", "-Werror", "-c", "plain.c", "-o"]).arg(format!("{out}/plain.o")));
-    run(Command::new("ar").arg("crs").arg(format!("{out}/libplain.a")).arg(format!("{out}/plain.o")));
+    println!("cargo:rerun-if-changed=plain.h");
+    let mut archive = Command::new("ar");
+    archive.arg("crs").arg(format!("{out}/libplain.a"));
+    for name in ["plain", "plain_check"] {
+        let (source, object) = (format!("{name}.c"), format!("{out}/{name}.o"));
+        println!("cargo:rerun-if-changed={source}");
+        run(Command::new("gcc").args(["-O3", "-std=c11", "-Wall", "-Wextra", "-Werror", "-c", &source, "-o", &object]));
+        archive.arg(object);
+    }
+    run(&mut archive);
     println!("cargo:rustc-link-search=native={out}");
     println!("cargo:rustc-link-lib=static=plain");
 }

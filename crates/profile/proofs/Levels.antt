@@ -1,14 +1,20 @@
 -- The laws of levels. A level from -1 up is `levelOf b`, b being its level byte, and its cover limit is 2 ^ b. Assumes nothing.
-use mathlib.Core.Path.{_≡_, refl, sym, ap, _∙_}
+use mathlib.Core.Path.{_≡_, refl, sym, ap, _∙_, subst⁻¹}
+use mathlib.Core.Bool.{Bool, true, false, cond}
 use mathlib.Core.Logic.{_↔_}
-use Prim.Native.Nat.{ℕ, zero, suc, _+_, _-_, _*_, _/_, _^_, _≤_, _<_}
-use native.Mathlib.Nat.{pow-suc, le-antisymm, mul-le-mul-left, zero-mul, lt-of-not-le}
+use Prim.Native.Nat.{ℕ, zero, suc, _+_, _-_, _*_, _/_, _^_, _≤_, _<_, min, zero-le}
+use native.Mathlib.Nat.{pow-suc, le-trans, le-antisymm, mul-le-mul-left, zero-mul, lt-of-not-le}
 use native.Mathlib.Omega.{arith}
 use native.Mathlib.Decide.{decLe}
-use lib.IntN.{ℤ, pos, negsuc, sucℤ, _-ℤ_}
+use lib.Dec.{T}
+use lib.IntN.{ℤ, pos, negsuc, sucℤ, _+ℤ_, _-ℤ_, -ℤ-one}
+use lib.Signed.{leZ, _≤ℤ_, _<ℤ_, ≤ℤ-refl}
 use lib.Pow.{pow-pos, pow-mono}
-use Rattle.profile.specs.Level.{_>2^_, _≤2^_, Fitting, levelOf, bits, bitLength, fittingLevel, coverLimit, reach, Printed}
-use Rattle.profile.proofs.Signs.{same, less-up, less-down}
+use mir.Syntax.{w32}
+use mir.Val.{SFits, toZ}
+use mir.ValLaws.{toZ-pos}
+use Rattle.profile.specs.Level.{_>2^_, _≤2^_, Fitting, levelOf, lower, bits, bitLength, fittingLevel, coverLimit, reach, Printed}
+use Rattle.profile.proofs.Signs.{same, less-up, less-down, le-no, le-parts, parts-le, lt-parts, parts-lt, suc-parts}
 
 -- ---- the cover limit, and the powers compared by it
 
@@ -46,6 +52,77 @@ at-most d (pos e) = (λ h. h, λ h. h)
 at-most d (negsuc zero) = (λ h. omega arith, λ h. omega arith)
 at-most zero (negsuc (suc k)) = (λ h. omega arith, λ h. omega (arith, zero-mul (2 ^ suc k)))
 at-most (suc d) (negsuc (suc k)) = (λ h. absurd (omega (arith, doubled (suc d) k)), λ h. absurd (omega arith))
+
+-- ---- the order of levels
+
+-- the cover limit never falls as the level rises, and doubles at least from one level to the next
+pub cover-mono : {a b : ℤ} → a ≤ℤ b → coverLimit a ≤ coverLimit b
+unfolding coverLimit
+cover-mono {a = pos a} {b = pos b} h = pow-mono (omega (arith, le-parts h))
+cover-mono {a = pos a} {b = negsuc b} h = absurd (h .le)
+cover-mono {a = negsuc zero} {b = pos b} h = pow-pos (suc b)
+cover-mono {a = negsuc zero} {b = negsuc zero} h = omega arith
+cover-mono {a = negsuc zero} {b = negsuc (suc b)} h = absurd (omega (arith, le-parts h))
+cover-mono {a = negsuc (suc a)} {b = b} h = zero-le
+
+cover-next : (a : ℤ) → 2 * coverLimit a ≤ coverLimit (sucℤ a)
+unfolding coverLimit
+cover-next (pos a) = omega (arith, pow-suc 2 (suc a))
+cover-next (negsuc zero) = omega arith
+cover-next (negsuc (suc a)) = zero-le
+
+pub cover-doubles : {a b : ℤ} → a <ℤ b → 2 * coverLimit a ≤ coverLimit b
+cover-doubles {a} {b} h = le-trans (cover-next a) (cover-mono (parts-le (sucℤ a) b (omega (arith, lt-parts h, suc-parts a))))
+
+-- two level bytes stand in the order of their levels
+pub level-order : (a b : ℕ) → levelOf a <ℤ levelOf b ↔ (a < b)
+level-order zero zero = (λ h. absurd (h .lt), λ h. absurd (omega arith))
+level-order zero (suc b) = (λ h. omega arith, λ h. record { lt = tt })
+level-order (suc a) zero = (λ h. absurd (h .lt), λ h. absurd (omega arith))
+level-order (suc a) (suc b) = (λ h. omega (arith, lt-parts h), λ h. parts-lt (pos a) (pos b) (omega arith))
+
+-- the byte is its level plus 1
+pub level-next : (b : ℕ) → levelOf b +ℤ pos 1 ≡ pos b
+level-next zero = refl
+level-next (suc b) = ap pos (omega arith)
+
+-- a byte's level fits a signed number of 32 bits, and there it is the byte less 1
+pub level-in-32 : (b : ℕ) → b < 256 → SFits w32 (levelOf b)
+level-in-32 zero h = record { sfits = omega arith }
+level-in-32 (suc b) h = record { sfits = omega arith }
+
+pub level-less : (b : ℕ) → b < 256 → toZ w32 b -ℤ pos 1 ≡ levelOf b
+level-less b h = ap (λ (z : ℤ). z -ℤ pos 1) (toZ-pos w32 b (omega arith)) ∙ -ℤ-one (pos b)
+
+-- the levels of the bytes up to 21 run from -1 to 20
+pub level-span : {b : ℕ} → b ≤ 21 → (negsuc 0 ≤ℤ levelOf b) × (levelOf b ≤ℤ pos 20)
+level-span {b = zero} h = (record { le = tt }, record { le = tt })
+level-span {b = suc b} h = (record { le = tt }, parts-le (pos b) (pos 20) (omega arith))
+
+pub span-byte : {e : ℤ} → (negsuc 0 ≤ℤ e) × (e ≤ℤ pos 20) → (b : ℕ) × (e ≡ levelOf b) × (b ≤ 21)
+span-byte {e = pos n} h = (suc n, refl, omega (arith, le-parts (h .1)))
+span-byte {e = negsuc zero} h = (0, refl, omega arith)
+span-byte {e = negsuc (suc n)} h = absurd (omega (arith, le-parts (h .0)))
+
+-- of two levels the lower is one, and at most both
+lower-one : (P : ℤ → Type 0) (a b : ℤ) → (a ≤ℤ b → P a) → (b ≤ℤ a → P b) → P (lower a b)
+unfolding lower
+lower-one P a b f g = go (leZ a b) refl
+  where
+    go : (t : Bool) → leZ a b ≡ t → P (cond t a b)
+    go true e = f (record { le = subst⁻¹ T e tt })
+    go false e = g (parts-le b a (omega (arith, le-no a b e)))
+
+pub lower-le : (a b : ℤ) → (lower a b ≤ℤ a) × (lower a b ≤ℤ b)
+lower-le a b = lower-one (λ m. (m ≤ℤ a) × (m ≤ℤ b)) a b (λ h. (≤ℤ-refl a, h)) (λ h. (h, ≤ℤ-refl b))
+
+-- what is at most both is at most the lower
+pub le-lower : {i a b : ℤ} → i ≤ℤ a → i ≤ℤ b → i ≤ℤ lower a b
+le-lower {i} {a} {b} h k = lower-one (λ m. i ≤ℤ m) a b (λ e. h) (λ e. k)
+
+pub cover-lower : (a b : ℤ) → coverLimit (lower a b) ≡ min (coverLimit a) (coverLimit b)
+cover-lower a b =
+    lower-one (λ m. coverLimit m ≡ min (coverLimit a) (coverLimit b)) a b (λ h. omega (arith, cover-mono h)) (λ h. omega (arith, cover-mono h))
 
 -- ---- the fitting level
 

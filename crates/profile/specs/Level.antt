@@ -1,7 +1,9 @@
 -- Levels: whole numbers that may be negative, and the powers of two that go with them. Assumes nothing.
 use mathlib.Core.Path.{_≡_}
+use mathlib.Core.Bool.{cond}
 use Prim.Native.Nat.{ℕ, zero, suc, _-_, _*_, _/_, _^_, _≤_, _<_}
 use lib.IntN.{ℤ, pos, negsuc, sucℤ, predℤ}
+use lib.Signed.{leZ}
 
 infix 50 _>2^_ _≤2^_
 -- d > 2 ^ e. Where e is negative both sides are multiplied by 2 ^ -e, so that no fraction is met
@@ -22,6 +24,10 @@ pub record Fitting (d : ℕ) (e : ℤ) : Type 0 where
 -- the level that a level byte stands for: the byte less 1
 abbrev pub levelOf : ℕ → ℤ
 levelOf byte = predℤ (pos byte)
+
+-- the lower of two levels
+unfoldable pub lower : ℤ → ℤ → ℤ
+lower a b = cond (leZ a b) a b
 
 -- how many bits n takes: none for 0, else one more than its half. `most` bounds how often n is halved
 unfoldable pub bits : ℕ → ℕ → ℕ

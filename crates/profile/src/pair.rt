@@ -35,7 +35,7 @@ pub fn largest(image: &[u8], p: usize, q: usize, wells: usize) -> u32
     most as u32
 }
 
-fn by_metric(metric: u8, image: &[u8], p: usize, q: usize, wells: usize) -> u32
+pub fn by_metric(metric: u8, image: &[u8], p: usize, q: usize, wells: usize) -> u32
     requires { ⌜ (wells ≤ 16) × (p + 2 * wells ≤ length (now image)) × (q + 2 * wells ≤ length (now image)) ⌝ }
     ensures exact { λ r. ⌜ r ≡ distanceOf metric (wellsAt (now (image .entry)) p wells) (wellsAt (now (image .entry)) q wells) ⌝ }
     ensures bound { λ r. ⌜ r ≤ 1048560 ⌝ }

@@ -25,8 +25,13 @@ impl Random {
         match self.below(10) {
             0 => i16::MAX,
             1 => i16::MIN,
-            _ => (self.next() >> 40) as i16,
+            _ => self.even_well(),
         }
+    }
+
+    /// A well, each value as likely as the others.
+    pub fn even_well(&mut self) -> i16 {
+        (self.next() >> 40) as i16
     }
 }
 

@@ -1,5 +1,6 @@
 //! Distances and levels: compared on many inputs, timed in rows, and shown at the worked examples.
 use crate::{
+    alike::same,
     data::{bytes_of, Random},
     harness::{medians, Way},
     library, plain_c, plain_rust,
@@ -39,14 +40,6 @@ pub fn compare(random: &mut Random, rounds: usize) -> Result<usize, String> {
         same(&|| format!("the level of {d}"), [library::level(d), plain_rust::level(d)])?;
     }
     Ok(4 * rounds + 1_048_560)
-}
-
-fn same<T: PartialEq + std::fmt::Debug, const N: usize>(what: &dyn Fn() -> String, answers: [T; N]) -> Result<(), String> {
-    if answers.iter().all(|a| *a == answers[0]) {
-        Ok(())
-    } else {
-        Err(format!("{}: the library and plain code answer {answers:?}", what()))
-    }
 }
 
 /// Times a distance as a scan makes it, in rows over `n` profiles, and prints a line for each metric, width and form.

@@ -1,4 +1,5 @@
 //! The proved library's doors for measuring. Each function here sees to what its contract requires.
+use crate::verdict::Verdict;
 
 mod door {
     extern "C" {
@@ -24,6 +25,7 @@ mod door {
             count: usize,
             limit: u32,
         ) -> u32;
+        pub fn kwb_check(image: *const u8, image_len: usize) -> u64;
     }
 }
 
@@ -46,4 +48,9 @@ pub fn plate_row(metric: u8, image: &[u8], from: usize, plate: &[i16], count: us
 pub fn pair_row(metric: u8, image: &[u8], at: usize, from: usize, wells: usize, count: usize, limit: u32) -> u32 {
     assert!(wells <= 16 && at + 2 * wells <= image.len() && from + count * 2 * wells <= image.len());
     unsafe { door::kwb_pair_row(metric, image.as_ptr(), image.len(), at, from, wells, count, limit) }
+}
+
+/// Any bytes will do.
+pub fn check(image: &[u8]) -> Verdict {
+    Verdict(unsafe { door::kwb_check(image.as_ptr(), image.len()) })
 }

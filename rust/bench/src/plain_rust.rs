@@ -1,4 +1,6 @@
 //! The same in plain Rust.
+mod check;
+pub use check::check;
 
 fn difference(x: i16, y: i16) -> u32 {
     (x as i32 - y as i32).unsigned_abs()
@@ -13,9 +15,14 @@ fn joined(metric: u8, differences: impl Iterator<Item = u32>) -> u32 {
     }
 }
 
-/// The wells of a profile in an image's bytes.
-fn wells_at(image: &[u8], at: usize, wells: usize) -> impl Iterator<Item = i16> + '_ {
-    image[at..at + 2 * wells].as_chunks().0.iter().map(|bytes| i16::from_le_bytes(*bytes))
+/// The bytes of a profile in an image, well by well.
+fn profile_at(image: &[u8], at: usize, wells: usize) -> &[[u8; 2]] {
+    image[at..at + 2 * wells].as_chunks().0
+}
+
+/// The distance of two profiles in an image.
+fn pair(metric: u8, p: &[[u8; 2]], q: &[[u8; 2]]) -> u32 {
+    joined(metric, p.iter().zip(q).map(|(x, y)| difference(i16::from_le_bytes(*x), i16::from_le_bytes(*y))))
 }
 
 /// The level e with 2^e < d <= 2^(e+1), found by trying the levels in turn.
@@ -30,12 +37,12 @@ pub fn lists(metric: u8, a: &[i16], b: &[i16]) -> u32 {
 
 pub fn plate_row(metric: u8, image: &[u8], from: usize, plate: &[i16], count: usize, limit: u32) -> u32 {
     let wells = plate.len();
-    let distance = |j| joined(metric, wells_at(image, from + j * 2 * wells, wells).zip(plate).map(|(x, y)| difference(x, *y)));
+    let profile = |j| profile_at(image, from + j * 2 * wells, wells).iter();
+    let distance = |j| joined(metric, profile(j).zip(plate).map(|(x, y)| difference(i16::from_le_bytes(*x), *y)));
     (0..count).map(distance).find(|d| *d < limit).unwrap_or(limit)
 }
 
 pub fn pair_row(metric: u8, image: &[u8], at: usize, from: usize, wells: usize, count: usize, limit: u32) -> u32 {
-    let distance =
-        |j| joined(metric, wells_at(image, at, wells).zip(wells_at(image, from + j * 2 * wells, wells)).map(|(x, y)| difference(x, y)));
+    let distance = |j| pair(metric, profile_at(image, at, wells), profile_at(image, from + j * 2 * wells, wells));
     (0..count).map(distance).find(|d| *d < limit).unwrap_or(limit)
 }

@@ -1,0 +1,3 @@
+-- The laws of the check.
+pub mod Near
+pub mod Passed

@@ -1,0 +1,19 @@
+-- `separation::first_near` meets its contract: at each width written out the wells are as many. Assumes nothing.
+use mathlib.Core.Path.{_≡_}
+use native.Mathlib.Omega.{arith}
+use borrow.Author.Needs.{needs}
+use Rattle.checker.proofs.Passed.{at-width}
+use Rattle.checker.proofs.separation.first_near.Statement.{statement}
+use Rattle.checker.proofs.separation.first_near.Tie as tie
+
+pub first-near-spec : {M : Type 1} → statement M
+first-near-spec =
+    tie.close
+    (tie.spec (λ c κs. let h : c .before .before .args .wells ≡ 16 = omega arith in (at-width h (c .before .before .pre .0), c .before .before .pre .1))
+    (λ c κs. let h : c .before .before .args .wells ≡ 8 = omega arith in (at-width h (c .before .before .pre .0), c .before .before .pre .1))
+    (λ c κs. let h : c .before .before .args .wells ≡ 4 = omega arith in (at-width h (c .before .before .pre .0), c .before .before .pre .1))
+    (λ c κs. search needs)
+    (λ c. search needs)
+    (λ c. search needs)
+    (λ c. search needs)
+    (λ c. search needs))

@@ -1,0 +1,47 @@
+//! What a check answers, in one number: the refusal number from bit 0 (0 is accepted), the kind of its place from bit 8 (none, record,
+//! pair), the record or the earlier one of a pair from bit 16, the later one from bit 32.
+use std::fmt;
+
+#[derive(Clone, Copy, PartialEq)]
+pub struct Verdict(pub u64);
+
+impl Verdict {
+    pub const ACCEPTED: Verdict = Verdict(0);
+
+    /// A refusal that tells no place.
+    pub fn nowhere(number: u64) -> Self {
+        Verdict(number)
+    }
+
+    pub fn at_record(number: u64, record: usize) -> Self {
+        Verdict(number | 1 << 8 | (record as u64) << 16)
+    }
+
+    pub fn at_pair(number: u64, earlier: usize, later: usize) -> Self {
+        Verdict(number | 2 << 8 | (earlier as u64) << 16 | (later as u64) << 32)
+    }
+
+    /// The refusal number.
+    pub fn number(self) -> usize {
+        self.0 as u8 as usize
+    }
+}
+
+impl fmt::Display for Verdict {
+    fn fmt(&self, f: &mut fmt::Formatter) -> fmt::Result {
+        let (number, kind, record, later) = (self.number(), self.0 >> 8 & 0xff, self.0 >> 16 & 0xffff, self.0 >> 32);
+        match kind {
+            _ if *self == Verdict::ACCEPTED => write!(f, "accepted"),
+            0 => write!(f, "refused, {number}"),
+            1 => write!(f, "refused, {number}, record {record}"),
+            _ => write!(f, "refused, {number}, pair {record} and {later}"),
+        }
+    }
+}
+
+/// The words and the number, since a wrong answer may have bits that the words do not show.
+impl fmt::Debug for Verdict {
+    fn fmt(&self, f: &mut fmt::Formatter) -> fmt::Result {
+        write!(f, "{self} ({:#x})", self.0)
+    }
+}
