@@ -6,7 +6,12 @@ ghost use lib.ListN.{length};
 ghost use Rattle.profile.specs.Bytes.{wellsAt};
 ghost use Rattle.profile.specs.Distance.{distance};
 ghost use Rattle.profile.specs.Level.{fittingLevel};
+ghost use Rattle.checker.specs.Check.{checkOf};
 ghost use Rattle.bench.specs.Row.{firstUnder};
+ghost use Rattle.bench.specs.Packed.{packedPlace, packedRefusal, packed};
+use checker::Checked;
+use image::refusal::Place;
+use image::refusal::Refusal;
 
 // The fitting level of a distance.
 #[no_mangle]
@@ -75,4 +80,33 @@ pub extern "C" fn kwb_pair_row(
         p += 2 * wells;
     }
     limit
+}
+
+fn packed_place(place: Place) -> u64
+    ensures { λ r. ⌜ (r ≡ packedPlace place) × (r < 1099511627776) ⌝ }
+{
+    match place {
+        Place::None => 0,
+        Place::Record(i) => 1 + 256 * (i as u64 % 65536),
+        Place::Pair { earlier, later } => 2
+            + 256 * (earlier as u64 % 65536)
+            + 16777216 * (later as u64 % 65536),
+    }
+}
+
+fn packed_refusal(refusal: Refusal) -> u64
+    ensures { λ r. ⌜ r ≡ packedRefusal refusal ⌝ }
+{
+    image::refusal::number(refusal) as u64 + 256 * packed_place(image::refusal::told_at(refusal))
+}
+
+// The check's verdict in one number.
+#[no_mangle]
+pub extern "C" fn kwb_check(image: &[u8]) -> u64
+    ensures { λ r. ⌜ r ≡ packed (checkOf (now (image .entry))) ⌝ }
+{
+    match checker::check(image) {
+        Checked::Accepted => 0,
+        Checked::Refused(refusal) => packed_refusal(refusal),
+    }
 }

@@ -1,6 +1,6 @@
 // Why a call is refused, and at which records.
 ghost use mathlib.Core.Path.{_≡_};
-ghost use Rattle.image.specs.Refusals.{numberOf};
+ghost use Rattle.image.specs.Refusals.{numberOf, placeOf};
 
 // Where a refusal applies.
 pub enum Place {
@@ -61,5 +61,33 @@ pub fn number(refusal: Refusal) -> u8
         Refusal::NewCode(_) => 18,
         Refusal::Held(_) => 19,
         Refusal::Full(_) => 20,
+    }
+}
+
+// The place that it tells.
+pub fn told_at(refusal: Refusal) -> Place
+    ensures { λ r. ⌜ r ≡ placeOf refusal ⌝ }
+{
+    match refusal {
+        Refusal::Size(place) => place,
+        Refusal::Edition(place) => place,
+        Refusal::Wells(place) => place,
+        Refusal::Metric(place) => place,
+        Refusal::Count(place) => place,
+        Refusal::Offsets(place) => place,
+        Refusal::Length(place) => place,
+        Refusal::RootNumber(place) => place,
+        Refusal::Node(place) => place,
+        Refusal::EqualCodes(place) => place,
+        Refusal::Level(place) => place,
+        Refusal::Cover(place) => place,
+        Refusal::Separation(place) => place,
+        Refusal::Plate(place) => place,
+        Refusal::Neighbours(place) => place,
+        Refusal::Room(place) => place,
+        Refusal::NewProfile(place) => place,
+        Refusal::NewCode(place) => place,
+        Refusal::Held(place) => place,
+        Refusal::Full(place) => place,
     }
 }
