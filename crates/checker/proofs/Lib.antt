@@ -1,3 +1,8 @@
 -- The laws of the check.
 pub mod Near
 pub mod Passed
+pub mod Table
+pub mod Passes
+pub mod Accepted
+pub mod Answers
+pub mod Examples
