@@ -3,3 +3,4 @@ pub mod Tests
 pub mod Check
 pub mod Laid
 pub mod Table
+pub mod Marks

@@ -69,12 +69,19 @@ pub record NoPair (p : ℕ → ℕ → Bool) (j : ℕ) : Type 0 where
 pub no-pair : (p : ℕ → ℕ → Bool) → NoPair p 0
 no-pair p = record { none = λ k h. absurd (omega arith) }
 
+pub no-pair-next : {p : ℕ → ℕ → Bool} {j : ℕ} → NoPair p j → ltb (firstBelow j (p j)) j ≡ false → NoPair p (j + 1)
+no-pair-next before e = record { none = below-more _ _ (before .none) e }
+
+pub pair-next : {n j : ℕ} {p : ℕ → ℕ → Bool} → j < n → NoPair p j → ltb (firstBelow j (p j)) j ≡ true → j ≡ laterBelow n p
+unfolding laterBelow
+pair-next l before e = found l (before .none) e
+
+-- where the earlier one itself was looked for
 pub no-pair-more : {p : ℕ → ℕ → Bool} {j r : ℕ} → NoPair p j → r ≡ firstBelow j (p j) → j ≤ r → NoPair p (j + 1)
-no-pair-more {p} {j} before e l = record { none = below-more _ _ (before .none) (le-ltb _ _ (subst (λ (x : ℕ). j ≤ x) e l)) }
+no-pair-more {j = j} before e l = no-pair-next before (le-ltb _ _ (subst (λ (x : ℕ). j ≤ x) e l))
 
 pub pair-found : {n j r : ℕ} {p : ℕ → ℕ → Bool} → j < n → NoPair p j → r ≡ firstBelow j (p j) → r < j → j ≡ laterBelow n p
-unfolding laterBelow
-pair-found {j = j} l before e h = found l (before .none) (lt-ltb _ _ (subst (λ (x : ℕ). x < j) e h))
+pair-found {j = j} l before e h = pair-next l before (lt-ltb _ _ (subst (λ (x : ℕ). x < j) e h))
 
 pub no-pair-found : {n j : ℕ} {p : ℕ → ℕ → Bool} → n ≤ j → NoPair p j → n ≡ laterBelow n p
 unfolding laterBelow
