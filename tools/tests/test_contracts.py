@@ -144,7 +144,7 @@ class Contracts(unittest.TestCase):
 
     def test_refuses_a_requires_on_a_call(self):
         self.refuse_source("pub fn check(x: u8) -> u8\n    requires { ⌜ x ≤ 3 ⌝ }\n    ensures { λ r. ⌜ r ≡ x ⌝ }\n{\n    x\n}\n",
-                           "1: `check` has a requires, and has to take any input", crate="image")
+                           "1: `check` has a requires, and has to take any input", crate="checker")
 
     def test_refuses_a_crate_that_lacks_its_calls(self):
         call = "pub fn {}()\n    ensures {{ λ r. ⌜ Yes ⌝ }}\n{{\n}}\n"
@@ -154,7 +154,7 @@ class Contracts(unittest.TestCase):
 
     def test_passes_a_method_spelled_like_a_call(self):
         clauses = "    requires { ⌜ Yes ⌝ }\n    ensures { λ r. ⌜ Yes ⌝ }\n"
-        self.write("image/src/lib.rt", "impl Best {\npub fn check(self)\n" + clauses + "{\n}\n}\n"
+        self.write("checker/src/lib.rt", "impl Best {\npub fn check(self)\n" + clauses + "{\n}\n}\n"
                    "pub fn check()\n    ensures { λ r. ⌜ Yes ⌝ }\n{\n}\nfn own()\n" + clauses + "{\n}\n")
         self.assert_passed("4 public functions in 2 crates")
 
