@@ -59,16 +59,29 @@ fn first_near_by_metric(image: &[u8], metric: u8, wells: usize, count: usize, la
     }
 }
 
-// The same, with the usual widths written out.
+// The same, with each width written out.
 pub fn first_near(image: &[u8], metric: u8, wells: usize, count: usize, later: usize) -> usize
     requires { ⌜ Noded (now image) metric wells count ⌝ }
     requires { ⌜ later < count ⌝ }
     ensures { λ r. ⌜ r ≡ firstBelow later (tooNear (now (image .entry)) later) ⌝ }
 {
     match wells {
-        16 => first_near_by_metric(image, metric, 16, count, later),
-        8 => first_near_by_metric(image, metric, 8, count, later),
+        1 => first_near_by_metric(image, metric, 1, count, later),
+        2 => first_near_by_metric(image, metric, 2, count, later),
+        3 => first_near_by_metric(image, metric, 3, count, later),
         4 => first_near_by_metric(image, metric, 4, count, later),
+        5 => first_near_by_metric(image, metric, 5, count, later),
+        6 => first_near_by_metric(image, metric, 6, count, later),
+        7 => first_near_by_metric(image, metric, 7, count, later),
+        8 => first_near_by_metric(image, metric, 8, count, later),
+        9 => first_near_by_metric(image, metric, 9, count, later),
+        10 => first_near_by_metric(image, metric, 10, count, later),
+        11 => first_near_by_metric(image, metric, 11, count, later),
+        12 => first_near_by_metric(image, metric, 12, count, later),
+        13 => first_near_by_metric(image, metric, 13, count, later),
+        14 => first_near_by_metric(image, metric, 14, count, later),
+        15 => first_near_by_metric(image, metric, 15, count, later),
+        16 => first_near_by_metric(image, metric, 16, count, later),
         _ => first_near_by_metric(image, metric, wells, count, later),
     }
 }

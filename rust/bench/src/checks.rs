@@ -70,7 +70,7 @@ pub fn time(random: &mut Random, sizes: &[usize], rounds: usize) {
         "one whole check of", "wells", "metric", "data", "codes", "us", "ns a pair", "/ plain Rust", "/ plain C"
     );
     for &strains in sizes {
-        for (wells, metric) in [(4, 1), (4, 2), (16, 1), (16, 2)] {
+        for (wells, metric) in [(4, 1), (4, 2), (12, 1), (12, 2), (16, 1), (16, 2)] {
             for data in [Data::Uniform, Data::Clustered] {
                 time_one(Kind { strains, wells, metric, data, codes: Order::Random }, rounds, random);
                 if strains == 1024 {
