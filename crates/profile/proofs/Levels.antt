@@ -53,6 +53,14 @@ at-most d (negsuc zero) = (λ h. omega arith, λ h. omega arith)
 at-most zero (negsuc (suc k)) = (λ h. omega arith, λ h. omega (arith, zero-mul (2 ^ suc k)))
 at-most (suc d) (negsuc (suc k)) = (λ h. absurd (omega (arith, doubled (suc d) k)), λ h. absurd (omega arith))
 
+-- d ≤ 2 ^ e, doubled on both sides
+pub at-most-level : (d : ℕ) (e : ℤ) → d ≤2^ e ↔ (2 * d ≤ coverLimit e)
+unfolding _≤2^_ coverLimit
+at-most-level d (pos e) = (λ h. omega (arith, pow-suc 2 e), λ h. omega (arith, pow-suc 2 e))
+at-most-level d (negsuc zero) = (λ h. omega arith, λ h. omega arith)
+at-most-level zero (negsuc (suc k)) = (λ h. omega arith, λ h. omega (arith, zero-mul (2 ^ suc (suc k))))
+at-most-level (suc d) (negsuc (suc k)) = (λ h. absurd (omega (arith, doubled (suc d) (suc k))), λ h. absurd (omega arith))
+
 -- ---- the order of levels
 
 -- the cover limit never falls as the level rises, and doubles at least from one level to the next

@@ -3,3 +3,4 @@ pub mod Separation
 pub mod Root
 pub mod Reach
 pub mod Forced
+pub mod Grow
