@@ -37,10 +37,6 @@ module _ {b : Bool} {P : Type 0} (t : Tells b P) where
       flop true e = refl
       flop false e = sym e
 
-  -- what holds just as well may be told instead
-  pub tells-as : {Q : Type 0} → (P → Q) → (Q → P) → Tells b Q
-  tells-as f g = record { yes = λ e. f (t .yes e); no = λ e q. t .no e (g q) }
-
 pub tells-or : {b c : Bool} {P Q : Type 0} → Tells b P → Tells c Q → Tells (b || c) (P ⊎ Q)
 tells-or {b = true} t u = record { yes = λ e. inl (t .yes refl); no = λ e s. true≢false e }
 tells-or {b = false} t u = record { yes = λ e. inr (u .yes e); no = λ e s. ⊎-elim (t .no refl) (u .no e) s }

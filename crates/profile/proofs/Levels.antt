@@ -14,7 +14,7 @@ use mir.Syntax.{w32}
 use mir.Val.{SFits, toZ}
 use mir.ValLaws.{toZ-pos}
 use Rattle.profile.specs.Level.{_>2^_, _≤2^_, Fitting, levelOf, lower, bits, bitLength, fittingLevel, coverLimit, reach, Printed}
-use Rattle.profile.proofs.Signs.{same, less-up, less-down, le-no, le-parts, parts-le, lt-parts, parts-lt, suc-parts}
+use Rattle.profile.proofs.Signs.{same, less-up, less-down, le-no, le-parts, parts-le, lt-parts, suc-parts}
 
 -- ---- the cover limit, and the powers compared by it
 
@@ -81,13 +81,6 @@ cover-next (negsuc (suc a)) = zero-le
 
 pub cover-doubles : {a b : ℤ} → a <ℤ b → 2 * coverLimit a ≤ coverLimit b
 cover-doubles {a} {b} h = le-trans (cover-next a) (cover-mono (parts-le (sucℤ a) b (omega (arith, lt-parts h, suc-parts a))))
-
--- two level bytes stand in the order of their levels
-pub level-order : (a b : ℕ) → levelOf a <ℤ levelOf b ↔ (a < b)
-level-order zero zero = (λ h. absurd (h .lt), λ h. absurd (omega arith))
-level-order zero (suc b) = (λ h. omega arith, λ h. record { lt = tt })
-level-order (suc a) zero = (λ h. absurd (h .lt), λ h. absurd (omega arith))
-level-order (suc a) (suc b) = (λ h. omega (arith, lt-parts h), λ h. parts-lt (pos a) (pos b) (omega arith))
 
 -- the byte is its level plus 1
 pub level-next : (b : ℕ) → levelOf b +ℤ pos 1 ≡ pos b
