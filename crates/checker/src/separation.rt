@@ -59,7 +59,7 @@ fn first_near_by_metric(image: &[u8], metric: u8, wells: usize, count: usize, la
     }
 }
 
-// The same, with each width written out.
+// The same, with each width written out. No width that passed rule 3 comes to the last arm, which a match on a number needs.
 pub fn first_near(image: &[u8], metric: u8, wells: usize, count: usize, later: usize) -> usize
     requires { ⌜ Noded (now image) metric wells count ⌝ }
     requires { ⌜ later < count ⌝ }
