@@ -45,6 +45,10 @@ class Imports(unittest.TestCase):
         self.assertEqual(status, 1)
         self.assertIn("A.antt: map\n", said)
 
+    def test_one_name_under_another(self):
+        status, said = self.run_on("src/lib.rt", "ghost use lib.X.{ap as map};\n\nfn f() ensures { map } {}\n")
+        self.assertEqual((status, said), (0, "each name that 1 files bring in is used there\n"))
+
     def test_unused_module(self):
         status, said = self.run_on("proofs/A.antt", "use lib.Reads as reads\n\nf : N\nf = 1\n")
         self.assertEqual(status, 1)

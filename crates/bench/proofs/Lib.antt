@@ -1,2 +1,3 @@
--- What the rows' proofs share.
+-- What the proofs of the rows and of the building calls share.
 pub mod Rows
+pub mod Answers

@@ -7,8 +7,11 @@ ghost use Rattle.profile.specs.Bytes.{wellsAt};
 ghost use Rattle.profile.specs.Distance.{distance};
 ghost use Rattle.profile.specs.Level.{fittingLevel};
 ghost use Rattle.checker.specs.Check.{checkOf};
+ghost use Rattle.build.specs.Answer.{answerOf};
+ghost use Rattle.build.specs.Calls.{startOf, addOf, fileOf};
 ghost use Rattle.bench.specs.Row.{firstUnder};
-ghost use Rattle.bench.specs.Packed.{packedPlace, packedRefusal, packed};
+ghost use Rattle.bench.specs.Packed.{packedPlace, packedRefusal, packed, packedAnswer};
+use build::Built;
 use checker::Checked;
 use image::refusal::Place;
 use image::refusal::Refusal;
@@ -109,4 +112,44 @@ pub extern "C" fn kwb_check(image: &[u8]) -> u64
         Checked::Accepted => 0,
         Checked::Refused(refusal) => packed_refusal(refusal),
     }
+}
+
+// The answer of a call that builds a library, in one number. The longest library takes 40976 bytes, so 16 bits hold its length.
+fn packed_built(built: Built) -> u64
+    ensures { λ r. ⌜ r ≡ packedAnswer (answerOf built) ⌝ }
+{
+    match built {
+        Built::Length(length) => 65536 * (length as u64 % 65536),
+        Built::Refused(refusal) => packed_refusal(refusal),
+    }
+}
+
+// A library started.
+#[no_mangle]
+pub extern "C" fn kwb_start(
+    wells: u32,
+    metric: u32,
+    code: u32,
+    profile: &[i16],
+    buffer: &mut [u8],
+) -> u64
+    ensures { λ r. ⌜ (r ≡ packedAnswer (startOf wells metric code (now (profile .entry)) (now (buffer .entry)) .answer)) × (now (buffer .exit) ≡ startOf wells metric code (now (profile .entry)) (now (buffer .entry)) .buffer) ⌝ }
+{
+    packed_built(build::start(wells, metric, code, profile, buffer))
+}
+
+// A strain added to the library that is the first `stated` bytes of the buffer.
+#[no_mangle]
+pub extern "C" fn kwb_add(buffer: &mut [u8], stated: usize, code: u32, profile: &[i16]) -> u64
+    ensures { λ r. ⌜ (r ≡ packedAnswer (addOf (now (buffer .entry)) stated code (now (profile .entry)) .answer)) × (now (buffer .exit) ≡ addOf (now (buffer .entry)) stated code (now (profile .entry)) .buffer) ⌝ }
+{
+    packed_built(build::add(buffer, stated, code, profile))
+}
+
+// A library filed into the buffer.
+#[no_mangle]
+pub extern "C" fn kwb_file(image: &[u8], buffer: &mut [u8]) -> u64
+    ensures { λ r. ⌜ (r ≡ packedAnswer (fileOf (now (image .entry)) (now (buffer .entry)) .answer)) × (now (buffer .exit) ≡ fileOf (now (image .entry)) (now (buffer .entry)) .buffer) ⌝ }
+{
+    packed_built(build::file(image, buffer))
 }

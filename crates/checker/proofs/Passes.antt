@@ -1,20 +1,18 @@
 -- The check accepts exactly where every rule's test fails. Assumes nothing.
 use mathlib.Core.Path.{_≡_, refl}
-use mathlib.Core.Bool.{Bool, true, false, cond}
+use mathlib.Core.Bool.{Bool, false}
 use mathlib.Core.List.{List, _∷_}
-use mathlib.Core.Option.{Option, none, some}
+use mathlib.Core.Option.{none}
 use Prim.Native.Nat.{ℕ, _<_}
 use native.Mathlib.Nat.{le-refl}
 use native.Mathlib.Omega.{arith}
-use lib.Dec.{ltb}
 use lib.ListN.{length}
-use borrow.Author.Tests.{ltb-false, le-ltb}
-use Rattle.image.specs.declared.refusal.Place.{Place}
+use borrow.Author.Tests.{le-ltb}
 use Rattle.image.specs.Fields.{countOf}
-use Rattle.image.specs.First.{firstBelow, laterBelow}
-use Rattle.image.specs.Verdict.{accepted, Rule, rule, when, atFirst, atPair, judge}
-use Rattle.image.proofs.First.{first-none, none-found, NoPair, no-pair-found}
-use Rattle.image.proofs.Verdicts.{pass, pass-first, pass-pair, accepted-none}
+use Rattle.image.specs.First.{firstBelow}
+use Rattle.image.specs.Verdict.{accepted, Rule, rule, atFirst, atPair, judge}
+use Rattle.image.proofs.First.{none-found, NoPair, no-pair-found}
+use Rattle.image.proofs.Verdicts.{pass, pass-first, pass-pair, accepted-none, past, when-none, first-passed, pair-passed}
 use Rattle.checker.specs.Tests.{badSize, badEdition, badWells, badMetric, badCount, badOffsets, badLength, badRoot, badNode, badLevel, badCover, sameCode, tooNear}
 use Rattle.checker.specs.Check.{treeRules, recordRules, layoutRules, headerRules, checkRules, checkOf}
 
@@ -35,28 +33,6 @@ pub record Passes (xs : List ℕ) : Type 0 where
   pub near : (later earlier : ℕ) → later < countOf xs → earlier < later → tooNear xs later earlier ≡ false
 
 -- ---- an accepted library passes each rule
-
-past : (m : ℕ) (f : Option Place) (rules : List Rule) → judge (rule m f ∷ rules) ≡ accepted → (f ≡ none) × (judge rules ≡ accepted)
-unfolding judge
-past m none rules e = (refl, e)
-past m (some p) rules e = let z : _≡_ {A = ℕ} 0 1 = cc in absurd (omega arith)
-
-not-some : (b : Bool) (p : Place) → cond b (some p) none ≡ none → b ≡ false
-not-some true p e = let z : _≡_ {A = ℕ} 0 1 = cc in absurd (omega arith)
-not-some false p e = refl
-
-when-none : (b : Bool) → when b ≡ none → b ≡ false
-unfolding when
-when-none b e = not-some b _ e
-
-first-passed : (n : ℕ) (p : ℕ → Bool) → atFirst n p ≡ none → (i : ℕ) → i < n → p i ≡ false
-unfolding atFirst
-first-passed n p e = first-none n p (ltb-false _ _ (not-some _ _ e))
-
-pair-passed : (n : ℕ) (p : ℕ → ℕ → Bool) → atPair n p ≡ none → (later earlier : ℕ) → later < n → earlier < later → p later earlier ≡ false
-unfolding atPair laterBelow
-pair-passed n p e later earlier h l =
-    first-none later (p later) (ltb-false _ _ (first-none n (λ k. ltb (firstBelow k (p k)) k) (ltb-false _ _ (not-some _ _ e)) later h)) earlier l
 
 pub passes : (xs : List ℕ) → checkOf xs ≡ accepted → Passes xs
 unfolding checkOf checkRules headerRules layoutRules recordRules treeRules

@@ -4,18 +4,11 @@ ghost use mathlib.Core.Bool.{false};
 ghost use Prim.Native.Nat.{_≤_};
 ghost use lib.ListN.{length};
 ghost use Rattle.image.specs.Verdict.{judge};
-ghost use Rattle.checker.specs.Tests.{outside as outsideOf, badEdition, badWells, badMetric, badCount, badOffsets, badLength, badRoot};
+ghost use Rattle.checker.specs.Tests.{badEdition, badWells, badMetric, badCount, badOffsets, badLength, badRoot};
 ghost use Rattle.checker.specs.Check.{headerRules, layoutRules, answerOf};
 use crate::Checked;
 use image::refusal::Place;
 use image::refusal::Refusal;
-
-// Whether x is not one of low to high.
-pub fn outside(low: usize, high: usize, x: usize) -> bool
-    ensures { λ r. ⌜ r ≡ outsideOf low high x ⌝ }
-{
-    (x < low) | (high < x)
-}
 
 fn bad_edition(image: &[u8]) -> bool
     requires { ⌜ 16 ≤ length (now image) ⌝ }
@@ -28,21 +21,21 @@ fn bad_wells(image: &[u8]) -> bool
     requires { ⌜ 16 ≤ length (now image) ⌝ }
     ensures { λ r. ⌜ r ≡ badWells (now (image .entry)) ⌝ }
 {
-    outside(1, 16, image::header::wells(image))
+    crate::range::outside(1, 16, image::header::wells(image))
 }
 
 fn bad_metric(image: &[u8]) -> bool
     requires { ⌜ 16 ≤ length (now image) ⌝ }
     ensures { λ r. ⌜ r ≡ badMetric (now (image .entry)) ⌝ }
 {
-    outside(1, 2, image::header::metric(image) as usize)
+    crate::range::outside(1, 2, image::header::metric(image) as usize)
 }
 
 fn bad_count(image: &[u8]) -> bool
     requires { ⌜ 16 ≤ length (now image) ⌝ }
     ensures { λ r. ⌜ r ≡ badCount (now (image .entry)) ⌝ }
 {
-    outside(1, 1024, image::header::count(image))
+    crate::range::outside(1, 1024, image::header::count(image))
 }
 
 fn bad_offsets(image: &[u8]) -> bool

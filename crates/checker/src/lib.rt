@@ -10,6 +10,7 @@ mod cover; // cover.rt: rule 12
 mod header; // header.rt: rules 2 to 8
 mod levels; // levels.rt: rule 11
 mod nodes; // nodes.rt: rule 9
+pub mod range; // range.rt: numbers outside a range
 mod records; // records.rt: rules 9 to 13 in their order
 mod separation; // separation.rt: rule 13
 
@@ -22,7 +23,7 @@ pub enum Checked {
 pub fn check(image: &[u8]) -> Checked
     ensures { λ r. ⌜ answerOf r ≡ checkOf (now (image .entry)) ⌝ }
 {
-    if header::outside(16, 40976, image.len()) {
+    if range::outside(16, 40976, image.len()) {
         return Checked::Refused(Refusal::Size(Place::None));
     }
     header::rules(image)

@@ -1,10 +1,13 @@
 -- How a verdict is come to: by a rule that applies, or past one that does not; and the verdict as a reader says it. Assumes nothing.
 use mathlib.Core.Path.{_≡_, refl, sym, _∙_}
-use mathlib.Core.Bool.{Bool, true, false}
-use mathlib.Core.List.{List, [], _∷_}
+use mathlib.Core.Bool.{Bool, true, false, cond}
+use mathlib.Core.List.{List, [], _∷_, _++_}
 use mathlib.Core.Option.{Option, none, some}
 use Prim.Native.Nat.{ℕ, _≤_, _<_}
-use borrow.Author.Tests.{lt-ltb, le-ltb}
+use native.Mathlib.Omega.{arith}
+use lib.Dec.{ltb}
+use borrow.Author.Tests.{lt-ltb, le-ltb, ltb-false}
+use Rattle.image.proofs.First.{first-none}
 use Rattle.image.specs.declared.refusal.Place.{Place}
 use Rattle.image.specs.First.{firstBelow, laterBelow}
 use Rattle.image.specs.Verdict.{Verdict, accepted, refused, Rule, rule, when, atFirst, atPair, judge}
@@ -56,5 +59,48 @@ module _ (m : ℕ) (rules : List Rule) (x : Verdict) where
 pub accepted-none : accepted ≡ judge []
 unfolding judge
 accepted-none = refl
+
+-- ---- an accepted verdict: each rule was passed
+
+pub past : (m : ℕ) (f : Option Place) (rules : List Rule) → judge (rule m f ∷ rules) ≡ accepted → (f ≡ none) × (judge rules ≡ accepted)
+unfolding judge
+past m none rules e = (refl, e)
+past m (some p) rules e = let z : _≡_ {A = ℕ} 0 1 = cc in absurd (omega arith)
+
+not-some : (b : Bool) (p : Place) → cond b (some p) none ≡ none → b ≡ false
+not-some true p e = let z : _≡_ {A = ℕ} 0 1 = cc in absurd (omega arith)
+not-some false p e = refl
+
+pub when-none : (b : Bool) → when b ≡ none → b ≡ false
+unfolding when
+when-none b e = not-some b _ e
+
+pub first-passed : (n : ℕ) (p : ℕ → Bool) → atFirst n p ≡ none → (i : ℕ) → i < n → p i ≡ false
+unfolding atFirst
+first-passed n p e = first-none n p (ltb-false _ _ (not-some _ _ e))
+
+pub pair-passed : (n : ℕ) (p : ℕ → ℕ → Bool) → atPair n p ≡ none → (later earlier : ℕ) → later < n → earlier < later → p later earlier ≡ false
+unfolding atPair laterBelow
+pair-passed n p e later earlier h l =
+    first-none later (p later) (ltb-false _ _ (first-none n (λ k. ltb (firstBelow k (p k)) k) (ltb-false _ _ (not-some _ _ e)) later h)) earlier l
+
+-- rules behind others: none of those applies, or one does
+pub judge-on : (rules more : List Rule) → judge rules ≡ accepted → judge (rules ++ more) ≡ judge more
+unfolding judge
+judge-on [] more e = refl
+judge-on (rule m none ∷ rules) more e = judge-on rules more e
+judge-on (rule m (some p) ∷ rules) more e = let z : _≡_ {A = ℕ} 0 1 = cc in absurd (omega arith)
+
+pub judge-both : (rules more : List Rule) → judge (rules ++ more) ≡ accepted → (judge rules ≡ accepted) × (judge more ≡ accepted)
+unfolding judge
+judge-both [] more e = (refl, e)
+judge-both (rule m none ∷ rules) more e = judge-both rules more e
+judge-both (rule m (some p) ∷ rules) more e = let z : _≡_ {A = ℕ} 0 1 = cc in absurd (omega arith)
+
+pub judge-stops : (rules more : List Rule) (m : ℕ) (p : Place) → judge rules ≡ refused m p → judge (rules ++ more) ≡ refused m p
+unfolding judge
+judge-stops [] more m p e = let z : _≡_ {A = ℕ} 0 1 = cc in absurd (omega arith)
+judge-stops (rule k none ∷ rules) more m p e = judge-stops rules more m p e
+judge-stops (rule k (some q) ∷ rules) more m p e = e
 
 pub ruleset verdicts = (flag, hit, pass, hit-first, pass-first, hit-pair, pass-pair)

@@ -33,7 +33,7 @@ pub fn largest(image: &[u8], at: usize, plate: &[i16], wells: usize) -> u32
     most as u32
 }
 
-fn by_metric(metric: u8, image: &[u8], at: usize, plate: &[i16], wells: usize) -> u32
+pub fn by_metric(metric: u8, image: &[u8], at: usize, plate: &[i16], wells: usize) -> u32
     requires { ⌜ (wells ≤ 16) × (length (now plate) ≡ wells) × (at + 2 * wells ≤ length (now image)) ⌝ }
     ensures exact { λ r. ⌜ r ≡ distanceOf metric (wellsAt (now (image .entry)) at wells) (now (plate .entry)) ⌝ }
     ensures bound { λ r. ⌜ r ≤ 1048560 ⌝ }

@@ -8,3 +8,12 @@ pub fn same<T: PartialEq + Debug, const N: usize>(what: &dyn Fn() -> String, ans
         Err(format!("{}: the library and plain code answer {answers:?}", what()))
     }
 }
+
+/// The same for bytes, of which there may be too many to show.
+pub fn same_bytes(what: &dyn Fn() -> String, ours: &[u8], other: &str, theirs: &[u8]) -> Result<(), String> {
+    if ours == theirs {
+        return Ok(());
+    }
+    let alike = ours.iter().zip(theirs).take_while(|(x, y)| x == y).count();
+    Err(format!("{}: the library and {other} leave unlike bytes, first at {alike}", what()))
+}

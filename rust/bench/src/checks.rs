@@ -16,7 +16,7 @@ pub type Counts = [usize; 14];
 pub fn compare(random: &mut Random, libraries: usize) -> Result<Counts, String> {
     let mut counts = [0; 14];
     for _ in 0..libraries {
-        let kind = any_kind(random);
+        let kind = Kind::any(random);
         let mut tree = made(kind, random);
         if random.below(2) == 0 {
             tree = tree.shuffled(random);
@@ -37,22 +37,6 @@ pub fn compare(random: &mut Random, libraries: usize) -> Result<Counts, String> 
     match counts.iter().position(|count| *count == 0) {
         Some(number) => Err(format!("no image was answered {number}: {counts:?}")),
         None => Ok(counts),
-    }
-}
-
-/// Mostly a small library, where one damage shows well.
-fn any_kind(random: &mut Random) -> Kind {
-    let strains = match random.below(2000) {
-        0 => 1024,
-        1..20 => 13 + random.below(200),
-        _ => 1 + random.below(12),
-    };
-    Kind {
-        strains,
-        wells: 1 + random.below(16),
-        metric: 1 + random.below(2) as u8,
-        data: if random.below(2) == 0 { Data::Uniform } else { Data::Clustered },
-        codes: if random.below(4) == 0 { Order::Ascending } else { Order::Random },
     }
 }
 

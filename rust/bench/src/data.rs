@@ -20,6 +20,10 @@ impl Random {
         (self.next() >> 16) as usize % end
     }
 
+    pub fn bytes(&mut self, count: usize) -> Vec<u8> {
+        (0..count).map(|_| (self.next() >> 32) as u8).collect()
+    }
+
     /// A well: one time in five at one of the two ends of its range.
     pub fn well(&mut self) -> i16 {
         match self.below(10) {

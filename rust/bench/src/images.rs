@@ -1,4 +1,4 @@
-//! Library images to check, from a builder that follows the rules for adding a strain and shares nothing with the library.
+//! Library images, from a builder that follows the rules for adding a strain and shares nothing with the library.
 mod damage;
 mod making;
 pub use damage::damaged;
@@ -25,6 +25,15 @@ pub struct Library {
 }
 
 impl Library {
+    /// Started with the first strain, the others added in turn.
+    pub fn built(metric: u8, strains: impl IntoIterator<Item = (u32, Vec<i16>)>) -> Self {
+        let mut strains = strains.into_iter();
+        let (code, profile) = strains.next().expect("a library has a strain");
+        let mut library = Library::start(metric, code, profile);
+        strains.for_each(|(code, profile)| library.add(code, profile));
+        library
+    }
+
     /// A lone root at level 0.
     pub fn start(metric: u8, code: u32, profile: Vec<i16>) -> Self {
         Library { metric, root: 0, records: vec![Record { code, parent: 0, level: 0, profile }] }
@@ -46,6 +55,13 @@ impl Library {
         record == self.root || 2 * d <= 1 << (self.records[record].level + 1)
     }
 
+    /// Built anew, its strains in ascending order of code.
+    pub fn filed(self) -> Self {
+        let mut strains: Vec<_> = self.records.into_iter().map(|v| (v.code, v.profile)).collect();
+        strains.sort_unstable();
+        Library::built(self.metric, strains)
+    }
+
     /// The same tree with its records in another order.
     pub fn shuffled(mut self, random: &mut Random) -> Self {
         for last in (1..self.records.len()).rev() {
@@ -63,6 +79,20 @@ impl Library {
         self.records.swap(a, b);
         self.records.iter_mut().for_each(|v| v.parent = swapped(v.parent));
         self.root = swapped(self.root);
+    }
+
+    /// The library that an accepted image holds.
+    pub fn read(image: &[u8]) -> Self {
+        let two = |at| [image[at], image[at + 1]];
+        let number = |at| u16::from_le_bytes(two(at)) as usize;
+        let (wells, n) = (image[2] as usize, number(4));
+        let profile = |record| (0..wells).map(|well| i16::from_le_bytes(two(16 + 8 * n + 2 * (wells * record + well)))).collect();
+        let record = |record| {
+            let node = 16 + 8 * record;
+            let code = number(node) as u32 | (number(node + 2) as u32) << 16;
+            Record { code, parent: number(node + 4), level: image[node + 6] as i32 - 1, profile: profile(record) }
+        };
+        Library { metric: image[3], root: number(6), records: (0..n).map(record).collect() }
     }
 
     /// The library as an image.
@@ -94,9 +124,7 @@ mod tests {
     use super::*;
 
     fn built(strains: &[(u32, i16)]) -> Library {
-        let mut tree = Library::start(1, strains[0].0, vec![strains[0].1]);
-        strains[1..].iter().for_each(|(code, value)| tree.add(*code, vec![*value]));
-        tree
+        Library::built(1, strains.iter().map(|(code, value)| (*code, vec![*value])))
     }
 
     #[test]
@@ -114,5 +142,18 @@ mod tests {
     fn another_order_builds_another_tree() {
         let nodes = built(&[(104, 11), (103, 10), (102, 3), (101, 0)]).records.into_iter().map(|v| (v.level, v.parent));
         assert_eq!(nodes.collect::<Vec<_>>(), [(3, 0), (-1, 0), (2, 0), (1, 2)]);
+    }
+
+    #[test]
+    fn filing_undoes_another_order() {
+        assert_eq!(built(&[(104, 11), (103, 10), (102, 3), (101, 0)]).filed(), example());
+    }
+
+    #[test]
+    fn an_image_is_read_as_it_was_written() {
+        let kind = Kind { strains: 300, wells: 3, metric: 2, data: Data::Clustered, codes: Order::Random };
+        let mut random = Random::new(1);
+        let tree = made(kind, &mut random).shuffled(&mut random);
+        assert_eq!(Library::read(&tree.bytes()), tree);
     }
 }

@@ -26,6 +26,17 @@ mod door {
             limit: u32,
         ) -> u32;
         pub fn kwb_check(image: *const u8, image_len: usize) -> u64;
+        pub fn kwb_start(
+            wells: u32,
+            metric: u32,
+            code: u32,
+            profile: *const i16,
+            profile_len: usize,
+            buffer: *mut u8,
+            buffer_len: usize,
+        ) -> u64;
+        pub fn kwb_add(buffer: *mut u8, buffer_len: usize, image_len: usize, code: u32, profile: *const i16, profile_len: usize) -> u64;
+        pub fn kwb_file(image: *const u8, image_len: usize, buffer: *mut u8, buffer_len: usize) -> u64;
     }
 }
 
@@ -50,7 +61,19 @@ pub fn pair_row(metric: u8, image: &[u8], at: usize, from: usize, wells: usize, 
     unsafe { door::kwb_pair_row(metric, image.as_ptr(), image.len(), at, from, wells, count, limit) }
 }
 
-/// Any bytes will do.
+/// Any bytes will do, and below any numbers and lengths too.
 pub fn check(image: &[u8]) -> Verdict {
     Verdict(unsafe { door::kwb_check(image.as_ptr(), image.len()) })
+}
+
+pub fn start(wells: u32, metric: u32, code: u32, profile: &[i16], buffer: &mut [u8]) -> Verdict {
+    Verdict(unsafe { door::kwb_start(wells, metric, code, profile.as_ptr(), profile.len(), buffer.as_mut_ptr(), buffer.len()) })
+}
+
+pub fn add(buffer: &mut [u8], image_len: usize, code: u32, profile: &[i16]) -> Verdict {
+    Verdict(unsafe { door::kwb_add(buffer.as_mut_ptr(), buffer.len(), image_len, code, profile.as_ptr(), profile.len()) })
+}
+
+pub fn file(image: &[u8], buffer: &mut [u8]) -> Verdict {
+    Verdict(unsafe { door::kwb_file(image.as_ptr(), image.len(), buffer.as_mut_ptr(), buffer.len()) })
 }

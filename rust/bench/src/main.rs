@@ -1,5 +1,6 @@
 //! Times the proved library beside plain C and plain Rust, and compares their answers.
 mod alike;
+mod builds;
 mod checks;
 mod data;
 mod distances;
@@ -15,16 +16,17 @@ use std::process::ExitCode;
 const USAGE: &str = "usage: bench [--quick | --examples]
   (nothing)   compare, then time each call over many rounds
   --quick     compare, then time each call over few
-  --examples  print the worked examples of levels, distances and checks";
+  --examples  print the worked examples of levels, distances, checks and building";
 
 fn main() -> ExitCode {
     let arguments: Vec<String> = std::env::args().skip(1).collect();
     match arguments.iter().map(String::as_str).collect::<Vec<_>>()[..] {
-        [] => measure(1024, &[16, 64, 256, 1024], 15),
-        ["--quick"] => measure(128, &[16, 256], 3),
+        [] => measure(&Effort { built: 50_000, profiles: 1024, libraries: &[16, 64, 256, 1024], rounds: 15 }),
+        ["--quick"] => measure(&Effort { built: 6_000, profiles: 128, libraries: &[16, 256], rounds: 3 }),
         ["--examples"] => {
             distances::examples();
             checks::examples();
+            builds::examples();
             ExitCode::SUCCESS
         }
         _ => {
@@ -34,23 +36,39 @@ fn main() -> ExitCode {
     }
 }
 
+/// How much is done.
+struct Effort {
+    /// Libraries to add to and to file.
+    built: usize,
+    /// Profiles to time distances of.
+    profiles: usize,
+    /// Sizes of libraries to time checks of.
+    libraries: &'static [usize],
+    /// Rounds of timing.
+    rounds: usize,
+}
+
 /// Compares first: a time is worth nothing where the answers differ.
-fn measure(profiles: usize, libraries: &[usize], rounds: usize) -> ExitCode {
+fn measure(effort: &Effort) -> ExitCode {
     let mut random = data::Random::new(1);
-    if let Err(what) = compare(&mut random) {
+    if let Err(what) = compare(&mut random, effort.built) {
         eprintln!("bench: {what}");
         return ExitCode::FAILURE;
     }
-    distances::time(&mut random, profiles, rounds);
-    checks::time(&mut random, libraries, rounds);
+    distances::time(&mut random, effort.profiles, effort.rounds);
+    checks::time(&mut random, effort.libraries, effort.rounds);
+    builds::time(&mut random, effort.rounds);
     ExitCode::SUCCESS
 }
 
-fn compare(random: &mut data::Random) -> Result<(), String> {
+fn compare(random: &mut data::Random, built: usize) -> Result<(), String> {
     let count = distances::compare(random, 200_000)?;
     println!("{count} answers compared, all alike");
     let counts = checks::compare(random, 20_000)?;
     println!("{} checks compared, all alike", counts.iter().sum::<usize>());
     println!("of these {} accepted, and refused by 1 to 13: {:?}", counts[0], &counts[1..]);
+    for tally in builds::compare(random, built)? {
+        println!("compared, all alike: {tally}");
+    }
     Ok(())
 }

@@ -1,5 +1,7 @@
 //! The same in plain Rust.
+mod build;
 mod check;
+pub use build::{add, file, start};
 pub use check::check;
 
 fn difference(x: i16, y: i16) -> u32 {

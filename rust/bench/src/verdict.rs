@@ -1,5 +1,6 @@
-//! What a check answers, in one number: the refusal number from bit 0 (0 is accepted), the kind of its place from bit 8 (none, record,
-//! pair), the record or the earlier one of a pair from bit 16, the later one from bit 32.
+//! What a call answers, in one number: the refusal number from bit 0 (0 is accepted), the kind of its place from bit 8 (none, record,
+//! pair), the record or the earlier one of a pair from bit 16, the later one from bit 32. A call that made an image and did not refuse has
+//! the image's length from bit 16.
 use std::fmt;
 
 #[derive(Clone, Copy, PartialEq)]
@@ -21,9 +22,29 @@ impl Verdict {
         Verdict(number | 2 << 8 | (earlier as u64) << 16 | (later as u64) << 32)
     }
 
+    /// Not refused: an image of this length was made.
+    pub fn made(length: usize) -> Self {
+        Verdict((length as u64) << 16)
+    }
+
     /// The refusal number.
     pub fn number(self) -> usize {
         self.0 as u8 as usize
+    }
+
+    pub fn refused(self) -> bool {
+        self.number() != 0
+    }
+
+    /// The length of the image that was made.
+    pub fn length(self) -> usize {
+        assert!(!self.refused(), "{self}");
+        (self.0 >> 16) as usize
+    }
+
+    /// The refusal number and the kind of its place alone.
+    pub fn kind(self) -> Self {
+        Verdict(self.0 & 0xffff)
     }
 }
 
@@ -32,6 +53,7 @@ impl fmt::Display for Verdict {
         let (number, kind, record, later) = (self.number(), self.0 >> 8 & 0xff, self.0 >> 16 & 0xffff, self.0 >> 32);
         match kind {
             _ if *self == Verdict::ACCEPTED => write!(f, "accepted"),
+            _ if !self.refused() => write!(f, "{} bytes", self.length()),
             0 => write!(f, "refused, {number}"),
             1 => write!(f, "refused, {number}, record {record}"),
             _ => write!(f, "refused, {number}, pair {record} and {later}"),

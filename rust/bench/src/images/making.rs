@@ -27,12 +27,26 @@ pub struct Kind {
     pub codes: Order,
 }
 
+impl Kind {
+    /// Mostly a small library, where one damage shows well.
+    pub fn any(random: &mut Random) -> Self {
+        let strains = match random.below(2000) {
+            0 => 1024,
+            1..20 => 13 + random.below(200),
+            _ => 1 + random.below(12),
+        };
+        Kind {
+            strains,
+            wells: 1 + random.below(16),
+            metric: 1 + random.below(2) as u8,
+            data: if random.below(2) == 0 { Data::Uniform } else { Data::Clustered },
+            codes: if random.below(4) == 0 { Order::Ascending } else { Order::Random },
+        }
+    }
+}
+
 pub fn made(kind: Kind, random: &mut Random) -> Library {
-    let mut strains = codes(kind, random).into_iter().zip(profiles(kind, random));
-    let (code, profile) = strains.next().expect("a library has a strain");
-    let mut library = Library::start(kind.metric, code, profile);
-    strains.for_each(|(code, profile)| library.add(code, profile));
-    library
+    Library::built(kind.metric, codes(kind, random).into_iter().zip(profiles(kind, random)))
 }
 
 fn codes(kind: Kind, random: &mut Random) -> Vec<u32> {

@@ -3,32 +3,34 @@ use super::pair;
 use crate::verdict::Verdict;
 
 pub fn check(bytes: &[u8]) -> Verdict {
-    tested(bytes).err().unwrap_or(Verdict::ACCEPTED)
+    checked(bytes).err().unwrap_or(Verdict::ACCEPTED)
 }
 
-fn tested(bytes: &[u8]) -> Result<(), Verdict> {
+/// The image that the bytes hold, if it is accepted.
+pub fn checked(bytes: &[u8]) -> Result<Image<'_>, Verdict> {
     let image = Image::read(bytes).map_err(Verdict::nowhere)?;
     image.fields()?;
     image.codes()?;
     image.levels()?;
     // two copies of the loops, each with its metric built in
     if image.metric == 1 {
-        image.distances(|p, q| pair(1, p, q))
+        image.distances(|p, q| pair(1, p, q))?;
     } else {
-        image.distances(|p, q| pair(2, p, q))
+        image.distances(|p, q| pair(2, p, q))?;
     }
+    Ok(image)
 }
 
 /// An image whose header and length are right.
-struct Image<'a> {
-    wells: usize,
-    metric: u8,
-    root: usize,
-    nodes: &'a [[u8; 8]],
-    profiles: &'a [[u8; 2]],
+pub struct Image<'a> {
+    pub wells: usize,
+    pub metric: u8,
+    pub root: usize,
+    pub nodes: &'a [[u8; 8]],
+    pub profiles: &'a [[u8; 2]],
 }
 
-fn code(node: &[u8; 8]) -> u32 {
+pub fn code(node: &[u8; 8]) -> u32 {
     u32::from_le_bytes([node[0], node[1], node[2], node[3]])
 }
 
@@ -36,7 +38,7 @@ fn parent(node: &[u8; 8]) -> usize {
     u16::from_le_bytes([node[4], node[5]]) as usize
 }
 
-fn level_plus_1(node: &[u8; 8]) -> u8 {
+pub fn level_plus_1(node: &[u8; 8]) -> u8 {
     node[6]
 }
 
@@ -71,7 +73,7 @@ impl<'a> Image<'a> {
         }
     }
 
-    fn profile(&self, record: usize) -> &[[u8; 2]] {
+    pub fn profile(&self, record: usize) -> &[[u8; 2]] {
         &self.profiles[record * self.wells..][..self.wells]
     }
 

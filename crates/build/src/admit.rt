@@ -1,0 +1,22 @@
+// A strain for a library that is accepted: rules 17 to 20 and 16, and then the strain.
+ghost use mathlib.Core.Path.{_≡_};
+ghost use Prim.Native.Nat.{_≤_};
+ghost use lib.ListN.{length, take};
+ghost use Rattle.image.specs.Library.{Library};
+ghost use Rattle.image.specs.Verdict.{judge};
+ghost use Rattle.build.specs.Answer.{handed, outcome};
+ghost use Rattle.build.specs.Rules.{strainRules};
+ghost use Rattle.build.specs.Calls.{imageWith};
+use crate::Built;
+use crate::offer::Offer;
+
+pub fn admit(buffer: &mut [u8], stated: usize, code: u32, profile: &[i16]) -> Built
+    requires { ⌜ Library (take stated (now buffer)) ⌝ }
+    requires { ⌜ stated ≤ length (now buffer) ⌝ }
+    ensures { λ r. ⌜ handed r (now (buffer .exit)) ≡ outcome (judge (strainRules (take stated (now (buffer .entry))) code (now (profile .entry)) (length (now (buffer .entry))))) (imageWith (now (buffer .entry)) stated code (now (profile .entry))) (now (buffer .entry)) ⌝ }
+{
+    match crate::offer::consider(&buffer[..stated], code, profile) {
+        Offer::Refused(refusal) => Built::Refused(refusal),
+        Offer::At(seat) => crate::grow::settle(buffer, stated, code, profile, seat),
+    }
+}

@@ -1,0 +1,75 @@
+// Growing a library: start, add, filing. Each answers with the length of the image that now stands in the buffer, or with a refusal, and then
+// nothing was written.
+ghost use mathlib.Core.Path.{_≡_};
+ghost use Rattle.build.specs.Answer.{handed};
+ghost use Rattle.build.specs.Calls.{startOf, addOf, fileOf};
+use checker::Checked;
+use image::refusal::Place;
+use image::refusal::Refusal;
+
+mod admit; // admit.rt: a strain for an accepted library
+mod begin; // begin.rt: a library begun with its root
+mod filing; // filing.rt: strains filed in order of code
+mod grow; // grow.rt: one strain more
+mod hang; // hang.rt: a strain hung into the tree
+mod near; // near.rt: the next record that is near enough
+mod offer; // offer.rt: rules 17 to 19
+mod seat; // seat.rt: the record that takes a new strain
+
+pub enum Built {
+    Length(usize),
+    Refused(Refusal),
+}
+
+// Starts a library with one strain, in front of the buffer.
+pub fn start(wells: u32, metric: u32, code: u32, profile: &[i16], buffer: &mut [u8]) -> Built
+    ensures { λ r. ⌜ handed r (now (buffer .exit)) ≡ startOf wells metric code (now (profile .entry)) (now (buffer .entry)) ⌝ }
+{
+    if checker::range::outside(1, 16, wells as usize) {
+        return Built::Refused(Refusal::Wells(Place::None));
+    }
+    if checker::range::outside(1, 2, metric as usize) {
+        return Built::Refused(Refusal::Metric(Place::None));
+    }
+    if profile.len() != wells as usize {
+        return Built::Refused(Refusal::NewProfile(Place::None));
+    }
+    if code == 0 {
+        return Built::Refused(Refusal::NewCode(Place::None));
+    }
+    let size = 24 + 2 * wells as usize;
+    if buffer.len() < size {
+        return Built::Refused(Refusal::Room(Place::None));
+    }
+    begin::begin(buffer, wells as usize, metric as u8, 1, code, profile);
+    Built::Length(size)
+}
+
+// Adds a strain to the library that is the first `stated` bytes of the buffer.
+pub fn add(buffer: &mut [u8], stated: usize, code: u32, profile: &[i16]) -> Built
+    ensures { λ r. ⌜ handed r (now (buffer .exit)) ≡ addOf (now (buffer .entry)) stated code (now (profile .entry)) ⌝ }
+{
+    if buffer.len() < stated {
+        return Built::Refused(Refusal::Size(Place::None));
+    }
+    match checker::check(&buffer[..stated]) {
+        Checked::Refused(refusal) => Built::Refused(refusal),
+        Checked::Accepted => admit::admit(buffer, stated, code, profile),
+    }
+}
+
+// Files a library into the buffer: its strains, added in ascending order of code.
+pub fn file(image: &[u8], buffer: &mut [u8]) -> Built
+    ensures { λ r. ⌜ handed r (now (buffer .exit)) ≡ fileOf (now (image .entry)) (now (buffer .entry)) ⌝ }
+{
+    match checker::check(image) {
+        Checked::Refused(refusal) => Built::Refused(refusal),
+        Checked::Accepted => {
+            if buffer.len() < image.len() {
+                return Built::Refused(Refusal::Room(Place::None));
+            }
+            filing::fill(image, buffer);
+            Built::Length(image.len())
+        }
+    }
+}

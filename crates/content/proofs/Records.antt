@@ -1,0 +1,16 @@
+-- The records that a library's bytes say, one by one. Assumes nothing.
+use mathlib.Core.Path.{_≡_, ap, _∙_}
+use mathlib.Core.List.{List}
+use Prim.Native.Nat.{ℕ, _<_}
+use native.Mathlib.Omega.{arith}
+use lib.ListN.{length}
+use Rattle.image.proofs.Strains.{each-length, each-at}
+use Rattle.content.specs.Content.{noRecord, nth, recordAt, recordsOf}
+
+pub records-length : (xs : List ℕ) (n : ℕ) → length (recordsOf xs n) ≡ n
+unfolding recordsOf
+records-length xs n = each-length (recordAt xs) 0 n
+
+pub record-is : (xs : List ℕ) (n i : ℕ) → i < n → nth (recordsOf xs n) i ≡ recordAt xs i
+unfolding recordsOf
+record-is xs n i h = each-at (recordAt xs) 0 n i noRecord h ∙ ap (recordAt xs) (omega arith)

@@ -1,0 +1,8 @@
+-- The laws of lists in order.
+pub mod Last
+pub mod Insert
+pub mod Order
+pub mod Places
+pub mod Sorted
+pub mod Shift
+pub mod Front

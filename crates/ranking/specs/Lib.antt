@@ -1,0 +1,3 @@
+-- What contracts cite of lists in order.
+pub mod Sort
+pub mod Order

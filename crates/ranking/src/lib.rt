@@ -1,0 +1,2 @@
+// Lists in ascending order.
+pub mod sort; // sort.rt: numbers sorted in place

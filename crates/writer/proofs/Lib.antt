@@ -1,0 +1,4 @@
+-- The laws of what is written.
+pub mod Stores
+pub mod Wells
+pub mod Moves

@@ -1,0 +1,2 @@
+-- What contracts cite of bytes that are moved.
+pub mod Moved
