@@ -18,9 +18,11 @@ map-append {B = B} f (x ∷ xs) ys = ap (λ (r : List B). f x ∷ r) (map-append
 pub added-strains : (c : Content) (s : Strain) → strains (added c s) ≡ strains c ++ (s ∷ [])
 unfolding added raised
 added-strains c s =
-    map-append (λ (r : Kept). r .strain) (set (c .records) (c .root) (raised (levelFor c (s .profile)) (nth (c .records) (c .root)))) _
-    ∙ ap (λ (r : List Strain). r ++ (s ∷ []))
-    (map-set-same (λ (r : Kept). r .strain) (c .records) (c .root) (raised (levelFor c (s .profile)) (nth (c .records) (c .root))) noRecord refl)
+    let olds : List Kept = set (c .records) (c .root) (raised (levelFor c (s .profile)) (nth (c .records) (c .root))) in
+    let new : Kept = record { strain = s; parent = parentFor c (s .profile); level = levelFor c (s .profile) } in
+    let joined : strains (added c s) ≡ map (λ (r : Kept). r .strain) olds ++ (s ∷ []) = map-append (λ (r : Kept). r .strain) olds (new ∷ []) in
+    let kept : map (λ (r : Kept). r .strain) olds ≡ strains c = map-set-same (λ (r : Kept). r .strain) (c .records) (c .root) _ noRecord refl in
+    joined ∙ ap (λ (r : List Strain). r ++ (s ∷ [])) kept
 
 module _ (c : Content) (s : Strain) where
   -- the root, with its level raised
