@@ -12,10 +12,12 @@ fn main() {
     println!("cargo:rustc-link-lib=static=bench");
 
     let out = env::var("OUT_DIR").expect("cargo names a folder for output");
-    println!("cargo:rerun-if-changed=plain.h");
+    for header in ["plain.h", "plain_image.h"] {
+        println!("cargo:rerun-if-changed={header}");
+    }
     let mut archive = Command::new("ar");
     archive.arg("crs").arg(format!("{out}/libplain.a"));
-    for name in ["plain", "plain_check"] {
+    for name in ["plain", "plain_check", "plain_search"] {
         let (source, object) = (format!("{name}.c"), format!("{out}/{name}.o"));
         println!("cargo:rerun-if-changed={source}");
         run(Command::new("gcc").args(["-O3", "-std=c11", "-Wall", "-Wextra", "-Werror", "-c", &source, "-o", &object]));

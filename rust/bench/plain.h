@@ -1,4 +1,4 @@
-/* What the plain C files share: wells in an image's bytes, and the distance of two profiles. */
+/* What the plain C files share: wells in an image's bytes, and the distances of profiles. */
 #ifndef PLAIN_H
 #define PLAIN_H
 #include <stddef.h>
@@ -33,6 +33,18 @@ static inline uint32_t pair(uint8_t metric, const uint8_t *p, const uint8_t *q, 
     if (metric == 2)
         for (size_t i = 0; i < wells; i++)
             r = larger(r, difference(well(p + 2 * i), well(q + 2 * i)));
+    return r;
+}
+
+static inline uint32_t plate(uint8_t metric, const uint8_t *profile, const int16_t *wells_of_plate, size_t wells)
+{
+    uint32_t r = 0;
+    if (metric == 1)
+        for (size_t i = 0; i < wells; i++)
+            r += difference(well(profile + 2 * i), wells_of_plate[i]);
+    if (metric == 2)
+        for (size_t i = 0; i < wells; i++)
+            r = larger(r, difference(well(profile + 2 * i), wells_of_plate[i]));
     return r;
 }
 

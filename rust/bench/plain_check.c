@@ -1,8 +1,5 @@
 /* The check of a library image in plain C: refusal numbers 1 to 13, each tested over all records before the next. */
-#include "plain.h"
-
-/* The answer in one number (0 is accepted): the refusal number from bit 0, the kind of its place from bit 8 (none, record, pair), the
-   record or the earlier one of a pair from bit 16, the later one from bit 32. */
+#include "plain_image.h"
 
 static uint64_t at_record(uint64_t number, size_t record)
 {
@@ -12,45 +9,6 @@ static uint64_t at_record(uint64_t number, size_t record)
 static uint64_t at_pair(uint64_t number, size_t earlier, size_t later)
 {
     return number | 2 << 8 | (uint64_t)earlier << 16 | (uint64_t)later << 32;
-}
-
-/* A node as its 8 bytes stand in an image. */
-struct node {
-    uint32_t code;
-    uint16_t parent;
-    uint8_t level_plus_1;
-    uint8_t spare;
-};
-
-/* The header as its 16 bytes stand in an image. */
-struct header {
-    uint16_t edition;
-    uint8_t wells;
-    uint8_t metric;
-    uint16_t n;
-    uint16_t root;
-    uint32_t profiles;
-    uint32_t nodes;
-};
-
-_Static_assert(sizeof(struct node) == 8 && sizeof(struct header) == 16, "nothing between the fields");
-
-/* An image whose header and length are right. */
-struct image {
-    size_t wells, n, root;
-    const uint8_t *nodes, *profiles;
-};
-
-static struct node node(const struct image *image, size_t record)
-{
-    struct node read;
-    memcpy(&read, image->nodes + sizeof read * record, sizeof read);
-    return read;
-}
-
-static const uint8_t *profile(const struct image *image, size_t record)
-{
-    return image->profiles + 2 * image->wells * record;
 }
 
 /* Numbers 2 to 8. */
@@ -138,12 +96,11 @@ uint64_t plain_check(const uint8_t *bytes, size_t length)
 {
     if (length < 16 || length > 40976)
         return 1;
-    struct header h;
-    memcpy(&h, bytes, sizeof h);
+    struct header h = header(bytes);
     uint64_t refusal = header_refusal(&h, length);
     if (refusal)
         return refusal;
-    struct image image = {h.wells, h.n, h.root, bytes + h.nodes, bytes + h.profiles};
+    struct image image = image_of(&h, bytes);
     refusal = field_refusal(&image);
     if (!refusal)
         refusal = code_refusal(&image);

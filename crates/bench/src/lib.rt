@@ -9,12 +9,16 @@ ghost use Rattle.profile.specs.Level.{fittingLevel};
 ghost use Rattle.checker.specs.Check.{checkOf};
 ghost use Rattle.build.specs.Answer.{answerOf};
 ghost use Rattle.build.specs.Calls.{startOf, addOf, fileOf};
+ghost use Rattle.search.specs.Answer.{sittingAnswer, withinAnswer};
+ghost use Rattle.search.specs.Calls.{sittingOf, withinOf};
 ghost use Rattle.bench.specs.Row.{firstUnder};
-ghost use Rattle.bench.specs.Packed.{packedPlace, packedRefusal, packed, packedAnswer};
+ghost use Rattle.bench.specs.Packed.{packedPlace, packedRefusal, packed, packedAnswer, packedServed, packedGathered, SatDown, Listed};
 use build::Built;
 use checker::Checked;
 use image::refusal::Place;
 use image::refusal::Refusal;
+use search::Gathered;
+use search::Served;
 
 // The fitting level of a distance.
 #[no_mangle]
@@ -152,4 +156,53 @@ pub extern "C" fn kwb_file(image: &[u8], buffer: &mut [u8]) -> u64
     ensures { λ r. ⌜ (r ≡ packedAnswer (fileOf (now (image .entry)) (now (buffer .entry)) .answer)) × (now (buffer .exit) ≡ fileOf (now (image .entry)) (now (buffer .entry)) .buffer) ⌝ }
 {
     packed_built(build::file(image, buffer))
+}
+
+// The answer of a sitting, in one number.
+fn packed_served(served: Served) -> u64
+    ensures { λ r. ⌜ r ≡ packedServed (sittingAnswer served) ⌝ }
+{
+    match served {
+        Served::Filled(filled) => 65536 * (filled as u64 % 65536),
+        Served::Refused(refusal) => packed_refusal(refusal),
+    }
+}
+
+// The nearest strains for a sitting of plates.
+#[no_mangle]
+pub extern "C" fn kwb_sitting(
+    image: &[u8],
+    plates: &[i16],
+    k: u32,
+    codes: &mut [u32],
+    distances: &mut [u32],
+) -> u64
+    ensures { λ r. ⌜ SatDown (sittingOf (now (image .entry)) (now (plates .entry)) k (now (codes .entry)) (now (distances .entry))) r (now (codes .exit)) (now (distances .exit)) ⌝ }
+{
+    packed_served(search::sitting(image, plates, k, codes, distances))
+}
+
+// The answer of a search within a radius, in one number: how many strains, and how many profiles were measured.
+fn packed_gathered(gathered: Gathered) -> u64
+    ensures { λ r. ⌜ r ≡ packedGathered (withinAnswer gathered) ⌝ }
+{
+    match gathered {
+        Gathered::Inside(strains, measured) => 65536 * (strains as u64 % 65536)
+            + 4294967296 * (measured as u64 % 65536),
+        Gathered::Refused(refusal) => packed_refusal(refusal),
+    }
+}
+
+// The strains within a radius of a plate.
+#[no_mangle]
+pub extern "C" fn kwb_within(
+    image: &[u8],
+    plate: &[i16],
+    radius: u32,
+    codes: &mut [u32],
+    distances: &mut [u32],
+) -> u64
+    ensures { λ r. ⌜ Listed (withinOf (now (image .entry)) (now (plate .entry)) radius (now (codes .entry)) (now (distances .entry))) r (now (codes .exit)) (now (distances .exit)) ⌝ }
+{
+    packed_gathered(search::within(image, plate, radius, codes, distances))
 }

@@ -1,24 +1,19 @@
 -- The rules of start, add and filing find what their tables' lines say, so each call's verdict is its table's. Assumes nothing.
 use mathlib.Core.Path.{_≡_}
-use mathlib.Core.List.{List, _++_}
+use mathlib.Core.List.{List}
 use Prim.Native.Nat.{ℕ, suc}
 use lib.IntN.{ℤ}
 use lib.ListN.{length, take}
 use Rattle.image.specs.declared.refusal.Place.{Place}
 use Rattle.image.specs.Fields.{wellsOf, countOf, codeAt, profileAt}
-use Rattle.image.specs.Verdict.{Rule, accepted, refused, judge}
-use Rattle.image.specs.Faults.{Line, FirstFault, NoFault}
+use Rattle.image.specs.Verdict.{accepted, refused, judge}
+use Rattle.image.specs.Faults.{FirstFault, NoFault}
 use Rattle.image.proofs.Tests.{Tells, tells-lt, tells-eq}
-use Rattle.image.proofs.Faults.{Match, end, next, finds-whole, finds-first, verdict-first, first-verdict, verdict-none, none-verdict}
+use Rattle.image.proofs.Faults.{Match, end, next, match-append, finds-whole, finds-first, verdict-first, first-verdict, verdict-none, none-verdict}
 use Rattle.checker.proofs.Table.{tells-outside, tells-other, check-table}
 use Rattle.build.specs.Rules.{sizeOf, codeTaken, profileHeld, startRules, roomRules, strainRules, addRules, fileRules}
 use Rattle.build.specs.Table.{startTable, strainTable, addTable, fileTable}
 use Rattle.build.proofs.Offers.{tells-alike}
-
--- rules behind rules find what lines behind lines say
-match-append : {rules more : List Rule} {lines rest : List Line} → Match rules lines → Match more rest → Match (rules ++ more) (lines ++ rest)
-match-append end n = n
-match-append (next f m) n = next f (match-append m n)
 
 tells-taken : (xs : List ℕ) (code i : ℕ) → Tells (codeTaken xs code i) (codeAt xs i ≡ code)
 unfolding codeTaken

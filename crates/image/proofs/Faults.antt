@@ -1,7 +1,7 @@
 -- The rules of a call find what the lines of the table say, so its verdict is the table's. Assumes nothing.
 use mathlib.Core.Path.{_≡_, refl, sym, subst}
 use mathlib.Core.Bool.{Bool, true, false, cond}
-use mathlib.Core.List.{List, [], _∷_}
+use mathlib.Core.List.{List, [], _∷_, _++_}
 use mathlib.Core.Option.{Option, none, some}
 use Prim.Native.Nat.{ℕ}
 use native.Mathlib.Omega.{arith}
@@ -61,6 +61,11 @@ pub data Match : List Rule → List Line → Type 1 where
   end : Match [] []
   next : {m : ℕ} {f : Option Place} {Applies : Place → Type 0} {rules : List Rule} {lines : List Line}
       → Finds f Applies → Match rules lines → Match (rule m f ∷ rules) (line m Applies ∷ lines)
+
+-- rules behind rules find what lines behind lines say
+pub match-append : {rules more : List Rule} {lines rest : List Line} → Match rules lines → Match more rest → Match (rules ++ more) (lines ++ rest)
+match-append end n = n
+match-append (next f m) n = next f (match-append m n)
 
 nothing-some : {q : Place} → none ≡ some q → ⊥
 nothing-some e = let z : _≡_ {A = ℕ} 0 1 = cc in absurd (omega arith)

@@ -13,7 +13,7 @@ use Rattle.ranking.specs.Sort.{insert}
 use Rattle.ranking.specs.Order.{Ascending, Distinct}
 
 -- by cases: the numbers come first, so that the types of both arms are known
-split : {C : Type 0} (a b : ℕ) → (a < b → C) → (b ≤ a → C) → C
+pub split : {C : Type 0} (a b : ℕ) → (a < b → C) → (b ≤ a → C) → C
 split {C} a b f g = go (ltb a b) refl
   where
     go : (t : Bool) → ltb a b ≡ t → C

@@ -1,10 +1,12 @@
 -- Lists in ascending order, and lists with no key twice: what their fronts keep, and that members alone decide them. Assumes nothing.
 use mathlib.Core.Path.{_≡_, refl, sym, ap, ap₂, _∙_}
 use mathlib.Core.Logic.{_≢_}
-use mathlib.Core.List.{List, [], _∷_, _++_}
-use mathlib.Core.List.{List·Memᴰ, List·Memᴰ·head, List·Memᴰ·tail, List·Memᴰ·not-nil, Memᴰ·append-left, Memᴰ·append-right}
+use mathlib.Core.List.{List, [], _∷_, _++_, map}
+use mathlib.Core.List.{List·Memᴰ, List·Memᴰ·head, List·Memᴰ·tail, List·Memᴰ·not-nil, Memᴰ·append-left, Memᴰ·append-right, Memᴰ·of-map}
 use Prim.Native.Nat.{ℕ, _≤_}
 use native.Mathlib.Nat.{le-antisymm, le-of-eq}
+use lib.ListN.{take, drop, take-append-drop}
+use lib.Seq.{take-take}
 use Rattle.ranking.specs.Order.{Ascending, Distinct}
 
 module _ {A : Type 0} {key : A → ℕ} where
@@ -12,6 +14,12 @@ module _ {A : Type 0} {key : A → ℕ} where
   pub ascending-front : (xs ys : List A) → Ascending key (xs ++ ys) → Ascending key xs
   ascending-front [] ys up = Ascending.none
   ascending-front (x ∷ xs) ys (Ascending.next low up) = Ascending.next (λ y m. low y (Memᴰ·append-left ys m)) (ascending-front xs ys up)
+
+  pub ascending-take : (k : ℕ) {xs : List A} → Ascending key xs → Ascending key (take k xs)
+  ascending-take k {xs} up = ascending-front (take k xs) (drop k xs) (rw take-append-drop up)
+
+  pub ascending-fewer : (i j : ℕ) (xs : List A) → i ≤ j → Ascending key (take j xs) → Ascending key (take i xs)
+  ascending-fewer i j xs h up = rw (← take-take i j xs h) (ascending-take i up)
 
   -- and none of its keys exceeds a later one
   pub ascending-below : (xs ys : List A) {a b : A} → Ascending key (xs ++ ys) → List·Memᴰ a xs → List·Memᴰ b ys → key a ≤ key b
@@ -62,3 +70,12 @@ module _ {A : Type 0} {key : A → ℕ} where
       (ascending-one (rest-ascending u) (rest-ascending v) (rest-distinct d) (rest-distinct e)
       (λ a m. behind d p m (there a (List·Memᴰ·tail m)))
       (λ a m. behind e (sym p) m (back a (List·Memᴰ·tail m))))
+
+-- a list in order, element by element made into something with the same key
+pub ascending-map : {A B : Type 0} (f : A → B) (key : B → ℕ) {xs : List A} → Ascending (λ a. key (f a)) xs → Ascending key (map f xs)
+ascending-map f key Ascending.none = Ascending.none
+ascending-map {A} {B} f key (Ascending.next {x = x} {xs = xs} low up) =
+    Ascending.next (λ y m. above y (Memᴰ·of-map f xs m)) (ascending-map f key up)
+  where
+    above : (y : B) → (a : A) × List·Memᴰ a xs × (f a ≡ y) → key (f x) ≤ key y
+    above y w = rw (← w .2) (low (w .0) (w .1))

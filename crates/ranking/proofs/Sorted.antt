@@ -20,7 +20,7 @@ module _ {A : Type 0} (key : A → ℕ) where
   unfolding sortBy
   sort-append xs x = foldl-append (λ (ys : List A) (y : A). insert key y ys) [] xs (x ∷ [])
 
-  sort-none : sortBy key [] ≡ []
+  pub sort-none : sortBy key [] ≡ []
   unfolding sortBy
   sort-none = refl
 

@@ -7,7 +7,7 @@ ghost use Rattle.ranking.specs.Sort.{itself, insert, sortBy};
 ghost use Rattle.ranking.specs.Order.{Ascending};
 
 // The number at a place goes in among those before it, which are in order: each that is greater moves up by one, until the place is found.
-fn put_in(keys: &mut [u64], at: usize)
+pub fn put_in(keys: &mut [u64], at: usize)
     requires { ⌜ at < length (now keys) ⌝ }
     requires { ⌜ Ascending itself (take at (now keys)) ⌝ }
     ensures { λ _. ⌜ now (keys .exit) ≡ insert itself (getD (now (keys .entry)) at 0) (take at (now (keys .entry))) ++ drop (at + 1) (now (keys .entry)) ⌝ }

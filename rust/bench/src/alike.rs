@@ -9,11 +9,11 @@ pub fn same<T: PartialEq + Debug, const N: usize>(what: &dyn Fn() -> String, ans
     }
 }
 
-/// The same for bytes, of which there may be too many to show.
-pub fn same_bytes(what: &dyn Fn() -> String, ours: &[u8], other: &str, theirs: &[u8]) -> Result<(), String> {
+/// The same for slices, which may be too long to show.
+pub fn same_slices<T: PartialEq>(what: &dyn Fn() -> String, ours: &[T], other: &str, theirs: &[T]) -> Result<(), String> {
     if ours == theirs {
         return Ok(());
     }
     let alike = ours.iter().zip(theirs).take_while(|(x, y)| x == y).count();
-    Err(format!("{}: the library and {other} leave unlike bytes, first at {alike}", what()))
+    Err(format!("{}: the library and {other} leave unlike memory, first at {alike}", what()))
 }

@@ -1,10 +1,9 @@
 //! Start, add and filing: compared on many inputs, timed, and shown at the worked examples.
 mod adds;
+mod compared;
 mod examples;
 mod filings;
-mod lent;
 mod starts;
-mod tally;
 mod timing;
 pub use examples::examples;
 pub use timing::time;
@@ -12,8 +11,8 @@ pub use timing::time;
 use crate::{
     data::Random,
     images::{made, Kind, Library},
+    tally::Tally,
 };
-use tally::Tally;
 
 /// Compares the library with plain Rust: starts, and adds to and filings of `libraries` libraries. Says of each call how it was answered.
 pub fn compare(random: &mut Random, libraries: usize) -> Result<[Tally; 3], String> {
@@ -43,21 +42,11 @@ fn any_library(round: usize, random: &mut Random) -> Library {
     }
 }
 
-/// The places to lend where `needed` are needed: just enough, one too few, any number too few, or more.
-fn any_room(needed: usize, random: &mut Random) -> usize {
-    match random.below(12) {
-        0 => needed.saturating_sub(1),
-        1 => random.below(needed + 1),
-        2 | 3 => needed,
-        _ => needed + random.below(64),
-    }
-}
-
 /// A code, 0 now and then.
 fn any_code(random: &mut Random) -> u32 {
     match random.below(12) {
         0 => 0,
         1 => 1 + random.below(4) as u32,
-        _ => (random.next() >> 32) as u32,
+        _ => random.number(),
     }
 }

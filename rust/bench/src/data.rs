@@ -20,8 +20,12 @@ impl Random {
         (self.next() >> 16) as usize % end
     }
 
-    pub fn bytes(&mut self, count: usize) -> Vec<u8> {
-        (0..count).map(|_| (self.next() >> 32) as u8).collect()
+    pub fn byte(&mut self) -> u8 {
+        (self.next() >> 32) as u8
+    }
+
+    pub fn number(&mut self) -> u32 {
+        (self.next() >> 32) as u32
     }
 
     /// A well: one time in five at one of the two ends of its range.

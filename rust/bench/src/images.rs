@@ -1,8 +1,13 @@
 //! Library images, from a builder that follows the rules for adding a strain and shares nothing with the library.
 mod damage;
+mod deepest;
 mod making;
+mod rehang;
+mod source;
 pub use damage::damaged;
-pub use making::{made, Data, Kind, Order};
+pub use deepest::deepest;
+pub use making::{drawn, made, Data, Kind, Order};
+pub use source::Source;
 
 use crate::{
     data::{bytes_of, Random},

@@ -1,5 +1,5 @@
 //! The proved library's doors for measuring. Each function here sees to what its contract requires.
-use crate::verdict::Verdict;
+use crate::{doors::search, verdict::Verdict};
 
 mod door {
     extern "C" {
@@ -37,6 +37,28 @@ mod door {
         ) -> u64;
         pub fn kwb_add(buffer: *mut u8, buffer_len: usize, image_len: usize, code: u32, profile: *const i16, profile_len: usize) -> u64;
         pub fn kwb_file(image: *const u8, image_len: usize, buffer: *mut u8, buffer_len: usize) -> u64;
+        pub fn kwb_sitting(
+            image: *const u8,
+            image_len: usize,
+            plates: *const i16,
+            plates_len: usize,
+            k: u32,
+            codes: *mut u32,
+            codes_len: usize,
+            distances: *mut u32,
+            distances_len: usize,
+        ) -> u64;
+        pub fn kwb_within(
+            image: *const u8,
+            image_len: usize,
+            plate: *const i16,
+            plate_len: usize,
+            radius: u32,
+            codes: *mut u32,
+            codes_len: usize,
+            distances: *mut u32,
+            distances_len: usize,
+        ) -> u64;
     }
 }
 
@@ -76,4 +98,12 @@ pub fn add(buffer: &mut [u8], image_len: usize, code: u32, profile: &[i16]) -> V
 
 pub fn file(image: &[u8], buffer: &mut [u8]) -> Verdict {
     Verdict(unsafe { door::kwb_file(image.as_ptr(), image.len(), buffer.as_mut_ptr(), buffer.len()) })
+}
+
+pub fn sitting(image: &[u8], plates: &[i16], k: u32, codes: &mut [u32], distances: &mut [u32]) -> Verdict {
+    search(door::kwb_sitting, image, plates, k, codes, distances)
+}
+
+pub fn within(image: &[u8], plate: &[i16], radius: u32, codes: &mut [u32], distances: &mut [u32]) -> Verdict {
+    search(door::kwb_within, image, plate, radius, codes, distances)
 }

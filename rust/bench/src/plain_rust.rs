@@ -1,8 +1,12 @@
 //! The same in plain Rust.
 mod build;
 mod check;
+mod scan;
+mod search;
 pub use build::{add, file, start};
 pub use check::check;
+pub use scan::{all_within, nearest};
+pub use search::{sitting, within};
 
 fn difference(x: i16, y: i16) -> u32 {
     (x as i32 - y as i32).unsigned_abs()
@@ -27,6 +31,11 @@ fn pair(metric: u8, p: &[[u8; 2]], q: &[[u8; 2]]) -> u32 {
     joined(metric, p.iter().zip(q).map(|(x, y)| difference(i16::from_le_bytes(*x), i16::from_le_bytes(*y))))
 }
 
+/// The distance of a profile in an image and a plate.
+fn plate(metric: u8, p: &[[u8; 2]], plate: &[i16]) -> u32 {
+    joined(metric, p.iter().zip(plate).map(|(x, y)| difference(i16::from_le_bytes(*x), *y)))
+}
+
 /// The level e with 2^e < d <= 2^(e+1), found by trying the levels in turn.
 pub fn level(d: u32) -> i32 {
     let d = d as u64;
@@ -37,10 +46,9 @@ pub fn lists(metric: u8, a: &[i16], b: &[i16]) -> u32 {
     joined(metric, a.iter().zip(b).map(|(x, y)| difference(*x, *y)))
 }
 
-pub fn plate_row(metric: u8, image: &[u8], from: usize, plate: &[i16], count: usize, limit: u32) -> u32 {
-    let wells = plate.len();
-    let profile = |j| profile_at(image, from + j * 2 * wells, wells).iter();
-    let distance = |j| joined(metric, profile(j).zip(plate).map(|(x, y)| difference(i16::from_le_bytes(*x), *y)));
+pub fn plate_row(metric: u8, image: &[u8], from: usize, wells_of_plate: &[i16], count: usize, limit: u32) -> u32 {
+    let wells = wells_of_plate.len();
+    let distance = |j| plate(metric, profile_at(image, from + j * 2 * wells, wells), wells_of_plate);
     (0..count).map(distance).find(|d| *d < limit).unwrap_or(limit)
 }
 

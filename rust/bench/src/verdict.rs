@@ -1,6 +1,6 @@
 //! What a call answers, in one number: the refusal number from bit 0 (0 is accepted), the kind of its place from bit 8 (none, record,
-//! pair), the record or the earlier one of a pair from bit 16, the later one from bit 32. A call that made an image and did not refuse has
-//! the image's length from bit 16.
+//! pair), the record or the earlier one of a pair from bit 16, the later one from bit 32. A call that did not refuse has from bit 16 the
+//! first number that it tells, as the length of an image that it made, and from bit 32 the second.
 use std::fmt;
 
 #[derive(Clone, Copy, PartialEq)]
@@ -24,7 +24,12 @@ impl Verdict {
 
     /// Not refused: an image of this length was made.
     pub fn made(length: usize) -> Self {
-        Verdict((length as u64) << 16)
+        Verdict::told(length, 0)
+    }
+
+    /// Not refused: these are the numbers told.
+    pub fn told(first: usize, second: usize) -> Self {
+        Verdict((first as u64) << 16 | (second as u64) << 32)
     }
 
     /// The refusal number.
@@ -42,6 +47,18 @@ impl Verdict {
         (self.0 >> 16) as usize
     }
 
+    /// The first number told by a search: how many strains.
+    pub fn strains(self) -> usize {
+        assert!(!self.refused(), "{self}");
+        (self.0 >> 16) as u16 as usize
+    }
+
+    /// The second: how many profiles were measured.
+    pub fn measured(self) -> usize {
+        assert!(!self.refused(), "{self}");
+        (self.0 >> 32) as usize
+    }
+
     /// The refusal number and the kind of its place alone.
     pub fn kind(self) -> Self {
         Verdict(self.0 & 0xffff)
@@ -53,7 +70,7 @@ impl fmt::Display for Verdict {
         let (number, kind, record, later) = (self.number(), self.0 >> 8 & 0xff, self.0 >> 16 & 0xffff, self.0 >> 32);
         match kind {
             _ if *self == Verdict::ACCEPTED => write!(f, "accepted"),
-            _ if !self.refused() => write!(f, "{} bytes", self.length()),
+            _ if !self.refused() => write!(f, "not refused, {record} and {later}"),
             0 => write!(f, "refused, {number}"),
             1 => write!(f, "refused, {number}, record {record}"),
             _ => write!(f, "refused, {number}, pair {record} and {later}"),

@@ -1,13 +1,13 @@
 //! Adds of right and wrong strains to right and damaged images.
-use super::{
-    any_code, any_room,
-    lent::{compared, Lent},
-    tally::{of_check, Tally},
-};
+use super::{any_code, compared::compared};
 use crate::{
     data::Random,
     images::{damaged, Library},
-    library, plain_rust,
+    lent::{any_room, Lent},
+    library,
+    near::{halfway, moved, resized},
+    plain_rust,
+    tally::{of_check, Tally},
     verdict::Verdict,
 };
 
@@ -42,7 +42,7 @@ fn add(tree: &Library, image: &[u8], tally: &mut Tally, random: &mut Random) -> 
     let (code, profile) = (any_new_code(tree, random), any_profile(tree, random));
     let room = any_room(image.len() + 8 + 2 * tree.records[0].profile.len(), random);
     let stated = any_stated(image.len(), room, random);
-    let lent = Lent::holding(image, room, random);
+    let lent = Lent::new(room, Random::byte, random).holding(image);
     let what = || format!("add {code} with {profile:?} to {stated} of {room} bytes that begin {:02x?}", &image[..image.len().min(256)]);
     compared(
         &what,
@@ -91,33 +91,4 @@ fn any_profile(tree: &Library, random: &mut Random) -> Vec<i16> {
         3..6 => halfway(&own.profile, &tree.records[own.parent].profile),
         _ => moved(&own.profile, random),
     }
-}
-
-/// One well more, one fewer, or any number of them.
-fn resized(profile: &[i16], random: &mut Random) -> Vec<i16> {
-    let wells = match random.below(3) {
-        0 => profile.len() - 1,
-        1 => profile.len() + 1,
-        _ => random.below(20),
-    };
-    let mut profile = profile.to_vec();
-    profile.resize(wells, random.well());
-    profile
-}
-
-/// Between a node and its parent: mostly both can take it, and often they are equally near.
-fn halfway(p: &[i16], q: &[i16]) -> Vec<i16> {
-    p.iter().zip(q).map(|(x, y)| (*x as i32 + *y as i32).div_euclid(2) as i16).collect()
-}
-
-/// One well or two moved by a power of two or one more or less, where levels turn.
-fn moved(profile: &[i16], random: &mut Random) -> Vec<i16> {
-    let mut profile = profile.to_vec();
-    for _ in 0..1 + random.below(2) {
-        let (well, power) = (random.below(profile.len()), random.below(16));
-        let by = (1 << power) + random.below(3) as i32 - 1;
-        let to = profile[well] as i32 + if random.below(2) == 0 { by } else { -by };
-        profile[well] = to.clamp(i16::MIN as i32, i16::MAX as i32) as i16;
-    }
-    profile
 }

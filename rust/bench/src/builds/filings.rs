@@ -1,13 +1,11 @@
 //! Filings of right and damaged images.
-use super::{
-    any_room,
-    lent::{compared, Lent},
-    tally::{of_check, Tally},
-};
+use super::compared::compared;
 use crate::{
     data::Random,
     images::{damaged, Library},
+    lent::{any_room, Lent},
     library, plain_rust,
+    tally::{of_check, Tally},
     verdict::Verdict,
 };
 
@@ -32,7 +30,7 @@ pub fn compare(tree: Library, tally: &mut Tally, random: &mut Random) -> Result<
 
 /// Files an image of which, if it is accepted, the builder makes this form.
 fn file(image: &[u8], form: impl Fn() -> Vec<u8>, tally: &mut Tally, random: &mut Random) -> Result<(), String> {
-    let lent = Lent::new(any_room(image.len(), random), random);
+    let lent = Lent::new(any_room(image.len(), random), Random::byte, random);
     let what = || format!("filing of {} bytes that begin {:02x?}", image.len(), &image[..image.len().min(256)]);
     compared(&what, &lent, tally, |buffer| library::file(image, buffer), |buffer| plain_rust::file(image, buffer), form)
 }

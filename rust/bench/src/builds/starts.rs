@@ -1,10 +1,13 @@
 //! Starts with right and wrong arguments.
-use super::{
-    any_code, any_room,
-    lent::{compared, Lent},
+use super::{any_code, compared::compared};
+use crate::{
+    data::Random,
+    images::Library,
+    lent::{any_room, Lent},
+    library, plain_rust,
     tally::Tally,
+    verdict::Verdict,
 };
-use crate::{data::Random, images::Library, library, plain_rust, verdict::Verdict};
 
 pub fn tally() -> Tally {
     Tally::new("start", [3, 4, 17, 18, 16].map(Verdict::nowhere))
@@ -13,7 +16,7 @@ pub fn tally() -> Tally {
 pub fn compare(tally: &mut Tally, random: &mut Random) -> Result<(), String> {
     let (wells, metric, code) = (any_number(16, random), any_number(2, random), any_code(random));
     let profile = any_profile(wells, random);
-    let lent = Lent::new(any_room(24 + 2 * profile.len(), random), random);
+    let lent = Lent::new(any_room(24 + 2 * profile.len(), random), Random::byte, random);
     let what = || format!("start with {wells} wells, metric {metric}, code {code}, profile {profile:?}");
     compared(
         &what,

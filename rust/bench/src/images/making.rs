@@ -1,5 +1,5 @@
 //! Made-up libraries of a wanted kind.
-use super::Library;
+use super::{Library, Source};
 use crate::data::Random;
 use std::{collections::HashSet, hash::Hash};
 
@@ -9,6 +9,11 @@ pub enum Data {
     Uniform,
     /// Some sixteen strains around each of a few centres.
     Clustered,
+    /// As a reader meets them: about as many species as each has strains, so 32 of 32 in the largest library. A species' wells lie anywhere
+    /// in their range. A strain's are its species', each moved by at most 3 in a hundred of it and 8 more.
+    Species,
+    /// Wells of so few values that many strains lie equally far from a plate.
+    Tied,
 }
 
 /// The order in which codes come in.
@@ -46,41 +51,23 @@ impl Kind {
 }
 
 pub fn made(kind: Kind, random: &mut Random) -> Library {
-    Library::built(kind.metric, codes(kind, random).into_iter().zip(profiles(kind, random)))
+    drawn(kind, &Source::new(kind, random), random)
+}
+
+/// With profiles from a source of that kind.
+pub fn drawn(kind: Kind, source: &Source, random: &mut Random) -> Library {
+    let codes = codes(kind, random);
+    let profiles = different(kind.strains, || source.draw(random));
+    Library::built(kind.metric, codes.into_iter().zip(profiles))
 }
 
 fn codes(kind: Kind, random: &mut Random) -> Vec<u32> {
-    let mut codes = different(kind.strains, || (random.next() >> 32).max(1) as u32);
+    let mut codes = different(kind.strains, || random.number().max(1));
     match kind.codes {
         Order::Random => {}
         Order::Ascending => codes.sort_unstable(),
     }
     codes
-}
-
-fn profiles(kind: Kind, random: &mut Random) -> Vec<Vec<i16>> {
-    let centres: Vec<_> = (0..kind.strains / 16 + 2).map(|_| centre(kind.wells, random)).collect();
-    let anywhere = |random: &mut Random| (0..kind.wells).map(|_| random.even_well()).collect();
-    different(kind.strains, || match kind.data {
-        // a stray now and then, so that there is no end of different profiles
-        Data::Clustered if random.below(16) > 0 => around(&centres[random.below(centres.len())], random),
-        _ => anywhere(random),
-    })
-}
-
-/// One centre in four is a corner, where distances become as large as they can.
-fn centre(wells: usize, random: &mut Random) -> Vec<i16> {
-    match random.below(8) {
-        0 => vec![i16::MIN; wells],
-        1 => vec![i16::MAX; wells],
-        _ => (0..wells).map(|_| random.well()).collect(),
-    }
-}
-
-/// A profile near a centre, at most 32 away in each well and mostly nearer.
-fn around(centre: &[i16], random: &mut Random) -> Vec<i16> {
-    let most = 1 << random.below(6);
-    centre.iter().map(|well| well.saturating_add(random.below(2 * most + 1) as i16 - most as i16)).collect()
 }
 
 /// The first `count` drawn, equal ones skipped.

@@ -34,7 +34,7 @@ pub fn code(node: &[u8; 8]) -> u32 {
     u32::from_le_bytes([node[0], node[1], node[2], node[3]])
 }
 
-fn parent(node: &[u8; 8]) -> usize {
+pub fn parent(node: &[u8; 8]) -> usize {
     u16::from_le_bytes([node[4], node[5]]) as usize
 }
 
@@ -48,7 +48,7 @@ fn spare(node: &[u8; 8]) -> u8 {
 
 impl<'a> Image<'a> {
     /// Numbers 1 to 8.
-    fn read(bytes: &'a [u8]) -> Result<Self, u64> {
+    pub fn read(bytes: &'a [u8]) -> Result<Self, u64> {
         if !(16..=40_976).contains(&bytes.len()) {
             return Err(1);
         }

@@ -25,7 +25,7 @@ loop-again c =
     let l = c .before .before .before .loop in (
       lt-length-set (l .keys) (l .i) _ (omega arith),
       length-set (l .keys) (l .i) _ ∙ l .inv .1,
-      shift-ascending (l .i) _ (l .keys) (search needs) (l .inv .0) (l .inv .2),
+      shift-ascending (l .i) _ (l .keys) (l .inv .2),
       shift-turn _ (l .i) (l .keys) (search needs) (l .inv .0) (search needs) ∙ l .inv .3,
     )
 

@@ -1,0 +1,29 @@
+-- `sitting` meets its contract: the check, and then the sitting over an accepted library. Assumes nothing.
+use mathlib.Core.Path.{sym, _∙_, ap}
+use borrow.Author.Needs.{needs}
+use Rattle.checker.specs.Check.{answerOf}
+use Rattle.checker.proofs.Accepted.{if-accepted}
+use Rattle.search.specs.Rules.{sittingRules}
+use Rattle.search.specs.Calls.{sittingOf}
+use Rattle.search.proofs.Outcomes.{when-refused, after-rules, image-refused, image-accepted}
+use Rattle.search.proofs.sitting.Statement.{statement}
+use Rattle.search.proofs.sitting.Tie as tie
+
+pub sitting-spec : {M : Type 1} → statement M
+unfolding sittingOf sittingRules
+sitting-spec =
+    tie.close
+    (tie.spec (λ c κs. search needs)
+    (λ c. search needs)
+    (λ c. search needs)
+    (λ c κs. if-accepted _ _ (c .before .before .before .before .check .ensures) (c .before .before .enum-told .given .1))
+    (λ c.
+    when-refused _ _ _ _ (c .before .refusal .given .0 .0)
+    (image-refused _ _ (c .before .refusal .given .0 .0) (sym (ap answerOf (c .before .refusal .given .1)) ∙ c .before .before .before .check .ensures)))
+    (λ c. search needs)
+    (λ c. search needs)
+    (λ c.
+    after-rules _ _ _ _ _ (c .before .before .before .before .sit .ensures)
+    (image-accepted
+    (if-accepted _ _ (c .before .before .before .before .before .before .before .before .before .check .ensures)
+    (c .before .before .before .before .before .before .before .enum-told .given .1)) _)))
