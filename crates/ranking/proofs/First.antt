@@ -13,7 +13,7 @@ use Rattle.ranking.specs.First.{firstK, offered, offers}
 use Rattle.ranking.proofs.Last.{by-last}
 use Rattle.ranking.proofs.Insert.{split, insert-before, insert-after, insert-length, insert-mem, insert-ascending, insert-last, insert-map}
 use Rattle.ranking.proofs.Order.{ascending-take}
-use Rattle.ranking.proofs.Sorted.{sort-none, sort-append, sort-map, sort-only-by-set}
+use Rattle.ranking.proofs.Sorted.{sort-none, sort-append, sort-only-by-set}
 
 module _ {A : Type 0} (key : A → ℕ) (k : ℕ) where
   pub offers-none : (kept : List A) → offers key k [] kept ≡ kept
@@ -99,10 +99,6 @@ module _ {A B : Type 0} (f : A → B) (key : B → ℕ) (k : ℕ) where
   pub offered-map : (x : A) (kept : List A) → map f (offered (λ a. key (f a)) k x kept) ≡ offered key k (f x) (map f kept)
   unfolding offered
   offered-map x kept = map-take f k (insert (λ a. key (f a)) x kept) ∙ ap (take k) (insert-map f key x kept)
-
-  pub first-map : (xs : List A) → map f (firstK (λ a. key (f a)) k xs) ≡ firstK key k (map f xs)
-  unfolding firstK
-  first-map xs = map-take f k (sortBy (λ a. key (f a)) xs) ∙ ap (take k) (sort-map f key xs)
 
 -- the first k of a set are one list
 pub first-only-by-set : {A : Type 0} {key : A → ℕ} (k : ℕ) {xs ys : List A} → Distinct key xs → Distinct key ys

@@ -25,6 +25,3 @@ lower-rank a b h l (inr tie) = omega (arith, tie .0, tie .1)
 
 pub rank-nearer : (a b : Found) → b .code < 4294967296 → rank a ≤ rank b → a .distance ≤ b .distance
 rank-nearer a b h lower = omega arith
-
-pub nearer-rank : (a b : Found) → a .code < 4294967296 → a .distance < b .distance → rank a < rank b
-nearer-rank a b h nearer = omega arith
