@@ -8,23 +8,19 @@ use native.Mathlib.Omega.{arith}
 use lib.Dec.{ltb, eqb}
 use lib.IntN.{ℤ}
 use lib.ListN.{length}
-use borrow.Author.Tests.{ltb-false, eqb-true}
+use borrow.Author.Tests.{eqb-true}
 use Rattle.image.specs.declared.refusal.Place.{Place}
 use Rattle.image.specs.Fields.{wellsOf, countOf}
 use Rattle.image.specs.Library.{Library}
 use Rattle.image.specs.Verdict.{accepted, refused, judge}
 use Rattle.image.proofs.Verdicts.{hit, pass}
 use Rattle.checker.specs.Tests.{outside}
-use Rattle.checker.proofs.Passed.{or-false}
+use Rattle.checker.proofs.Passed.{or-false, inside}
 use Rattle.search.specs.Answer.{given, handed}
 use Rattle.search.specs.Rules.{short, plateRules}
 use Rattle.search.specs.Calls.{codeIn, distanceIn, served, sat}
 use Rattle.search.specs.Steps.{Seated}
 use Rattle.search.proofs.Outcomes.{too-short, not-short, long-enough}
-
--- a number that is not outside a range is in it
-inside-range : (low high x : ℕ) → outside low high x ≡ false → (low ≤ x) × (x ≤ high)
-inside-range low high x e = let w = or-false (ltb x low) (ltb high x) e in (ltb-false x low (w .0), ltb-false high x (w .1))
 
 not-other : (a b : ℕ) → not (eqb a b) ≡ false → a ≡ b
 not-other a b e = go (eqb a b) refl e
@@ -53,7 +49,7 @@ module _ (xs : List ℕ) (values k codes distances : ℕ) where
           rw isWells (omega (arith, div-add-mod' values (wellsOf xs), whole))
 
       pub few-plates : (1 ≤ values / wells) × (values / wells ≤ 64)
-      few-plates = rw isWells (inside-range 1 64 (values / wellsOf xs) (tests .1))
+      few-plates = rw isWells (inside 1 64 (values / wellsOf xs) (tests .1))
 
       -- rule 15, and past it
       module _ {off : Bool} (isOff : off ≡ outside 1 32 k) where
@@ -63,7 +59,7 @@ module _ (xs : List ℕ) (values k codes distances : ℕ) where
 
         module _ (few : off ≡ false) where
           pub few-neighbours : (1 ≤ k) × (k ≤ 32)
-          few-neighbours = inside-range 1 32 k (sym isOff ∙ few)
+          few-neighbours = inside 1 32 k (sym isOff ∙ few)
 
           pub small : values / wells * k ≤ 2048
           small =
