@@ -1,16 +1,7 @@
-//! Links the proved archive, and compiles the plain C that it is measured beside.
-use std::{env, path::Path, process::Command};
+//! Compiles the plain C that the proved library is measured beside.
+use std::{env, process::Command};
 
 fn main() {
-    let here = env::var("CARGO_MANIFEST_DIR").expect("cargo names the package's folder");
-    let made = Path::new(&here).join("../../target/staticlib");
-    if !made.join("libbench.a").exists() {
-        println!("cargo:warning=no libbench.a: run `rt staticlib bench` first, or rust/bench/run, which does");
-    }
-    println!("cargo:rerun-if-changed={}", made.join("libbench.a").display());
-    println!("cargo:rustc-link-search=native={}", made.display());
-    println!("cargo:rustc-link-lib=static=bench");
-
     let out = env::var("OUT_DIR").expect("cargo names a folder for output");
     for header in ["plain.h", "plain_image.h"] {
         println!("cargo:rerun-if-changed={header}");

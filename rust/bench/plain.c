@@ -1,18 +1,6 @@
 /* The distances in plain C, as a reader would write them without a proof: what the library is measured beside. */
 #include "plain.h"
 
-uint32_t plain_lists(uint8_t metric, const int16_t *a, const int16_t *b, size_t wells)
-{
-    uint32_t r = 0;
-    if (metric == 1)
-        for (size_t i = 0; i < wells; i++)
-            r += difference(a[i], b[i]);
-    if (metric == 2)
-        for (size_t i = 0; i < wells; i++)
-            r = larger(r, difference(a[i], b[i]));
-    return r;
-}
-
 /* Of `count` profiles, each `wells` wells, one after the other: the distance of the first that lies nearer than `limit`, or the limit. */
 
 uint32_t plain_plate_row(uint8_t metric, const uint8_t *profiles, const int16_t *wells_of_plate, size_t wells, size_t count, uint32_t limit)

@@ -78,6 +78,28 @@ uint64_t plain_sitting(const uint8_t *bytes, size_t length, const int16_t *plate
     return (uint64_t)smaller(k, h.n) << 16;
 }
 
+/* The short call: 0 or the refusal number. */
+uint32_t plain_short(const uint8_t *bytes, size_t length, const uint8_t *plate_bytes, size_t plate_length, uint8_t *out, size_t room)
+{
+    uint64_t refusal = plain_check(bytes, length);
+    if (refusal)
+        return (uint8_t)refusal;
+    struct header h = header(bytes);
+    if (plate_length != 2u * h.wells)
+        return 14;
+    if (room < 40)
+        return 16;
+    int16_t wells[16];
+    uint32_t codes[5], distances[5];
+    memcpy(wells, plate_bytes, plate_length);
+    plain_nearest(bytes, wells, 1, 5, codes, distances);
+    for (size_t i = 0; i < 5; i++) {
+        memcpy(out + 8 * i, &codes[i], 4);
+        memcpy(out + 8 * i + 4, &distances[i], 4);
+    }
+    return 0;
+}
+
 static int in_order(const void *x, const void *y)
 {
     key a = *(const key *)x, b = *(const key *)y;

@@ -1,3 +1,2 @@
--- What the proofs of the rows and of the building calls share.
+-- What the proofs of the rows share.
 pub mod Rows
-pub mod Answers

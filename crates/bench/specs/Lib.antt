@@ -1,3 +1,2 @@
 -- What the contracts of this crate cite besides the library's own definitions.
 pub mod Row
-pub mod Packed

@@ -4,7 +4,8 @@ use mathlib.Core.List.{List}
 use Prim.Native.Nat.{ℕ}
 use native.Mathlib.Omega.{arith}
 use Rattle.image.proofs.Answers.{told-by}
-use Rattle.build.specs.Answer.{Outcome, answerOf, handed}
+use Rattle.image.specs.Answer.{Outcome}
+use Rattle.build.specs.Answer.{answerOf, handed}
 use Rattle.build.specs.declared.Built.{Built}
 use Rattle.build.specs.declared.Built.the-variants.{Length, Refused}
 

@@ -26,13 +26,13 @@ use Rattle.content.specs.Content.{recordsOf, contentOf}
 use Rattle.content.specs.Bytes.{wordOf, levelByteOf, headerBytes, nodeBytes, profileBytes, bytesOf}
 use Rattle.content.specs.Adding.{started, distanceTo, nearEnough, nearer, takerBelow, parentFor, levelFor, raised, added}
 use Rattle.content.specs.Filing.{grownOf, filed, filingForm}
-use Rattle.build.specs.Answer.{Answer, given, denied, Outcome, outcome}
+use Rattle.image.specs.Answer.{Answer, given, denied, Outcome, outcome}
 use Rattle.build.specs.Rules.{alike, codeTaken, profileHeld, roomRules, strainRules}
 use Rattle.build.specs.Calls.{strainOf, startOf, addOf, fileOf}
 use Rattle.build.proofs.Calls.{start-passes, add-checked, file-passes}
 
 -- the length that an answer gives
-abbrev pub lengthIn : Answer → ℕ
+abbrev pub lengthIn : Answer ℕ → ℕ
 lengthIn (given n) = n
 lengthIn (denied m p) = 0
 

@@ -4,7 +4,7 @@ pub mod Puts
 pub mod Hangs
 pub mod Offers
 pub mod StrainRules
-pub mod Outcomes
+pub mod Room
 pub mod Heads
 pub mod Begins
 pub mod Widens

@@ -1,46 +1,20 @@
 -- What holds where a call was not refused. Assumes nothing.
-use mathlib.Core.Path.{_≡_, refl, sym, _∙_, ap}
+use mathlib.Core.Path.{_≡_}
 use mathlib.Core.Logic.{_≢_}
 use mathlib.Core.List.{List}
 use Prim.Native.Nat.{ℕ, _≤_, _<_}
-use native.Mathlib.Omega.{arith}
 use lib.IntN.{ℤ}
-use lib.ListN.{length, take, drop}
-use lib.Seq.{take-at, drop-at}
+use lib.ListN.{length, take}
 use borrow.Author.Tests.{ltb-false, eqb-true, eqb-false, not-false}
 use Rattle.image.specs.Fields.{wellsOf, countOf, codeAt, profileAt}
 use Rattle.image.specs.Library.{Library}
-use Rattle.image.specs.Verdict.{Verdict, accepted, refused, judge}
+use Rattle.image.specs.Verdict.{accepted, judge}
 use Rattle.image.proofs.Verdicts.{past, when-none, first-passed, judge-both}
 use Rattle.checker.specs.Check.{checkRules, checkOf}
 use Rattle.checker.proofs.Accepted.{accepted-exactly}
 use Rattle.checker.proofs.Passed.{inside}
-use Rattle.build.specs.Answer.{Answer, given, denied, outcome}
 use Rattle.build.specs.Rules.{sizeOf, codeTaken, profileHeld, startRules, roomRules, strainRules, addRules, fileRules}
 use Rattle.build.proofs.Offers.{tells-alike}
-
--- the image stands in front of the buffer, and nothing was refused
-pub record Gave (v : Verdict) (image buffer : List ℕ) (n : ℕ) : Type 0 where
-  pub verdict : v ≡ accepted
-  pub long : n ≡ length image
-  pub front : take n (outcome v image buffer .buffer) ≡ image
-  pub behind : drop n (outcome v image buffer .buffer) ≡ drop n buffer
-
-valueOf : Answer → ℕ
-valueOf (given n) = n
-valueOf (denied m p) = m
-
-pub gave : (v : Verdict) (image buffer : List ℕ) (n : ℕ) → outcome v image buffer .answer ≡ given n → Gave v image buffer n
-unfolding outcome valueOf
-gave accepted image buffer n e =
-    let l : length image ≡ n = ap valueOf e in
-    record {
-      verdict = refl;
-      long = sym l;
-      front = take-at image (drop (length image) buffer) n l;
-      behind = drop-at image (drop (length image) buffer) n l ∙ ap (λ (k : ℕ). drop k buffer) l;
-    }
-gave (refused m p) image buffer n e = let z : _≡_ {A = ℕ} 0 1 = cc in absurd (omega arith)
 
 -- ---- start
 

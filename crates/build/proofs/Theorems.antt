@@ -24,11 +24,12 @@ use Rattle.content.proofs.Added.{added-strains}
 use Rattle.content.proofs.Accepted.{chosen, chosen-code, Fresh, added-writable, added-accepted, new-fields, root-level, same-fields, same-level}
 use Rattle.content.proofs.Started.{Startable, started-writable, started-accepted}
 use Rattle.content.proofs.Filing.{strains-are, strains-written, file-accepted, file-length, file-same-strains, file-twice}
-use Rattle.build.specs.Answer.{given, outcome}
+use Rattle.image.specs.Answer.{given, outcome}
+use Rattle.image.proofs.Outcomes.{Gave, gave}
 use Rattle.build.specs.Rules.{startRules, addRules, fileRules}
 use Rattle.build.specs.Calls.{strainOf, startOf, addOf, fileOf}
 use Rattle.build.proofs.Calls.{file-passes}
-use Rattle.build.proofs.Passed.{Gave, gave, starts, add-passed, file-passed}
+use Rattle.build.proofs.Passed.{starts, add-passed, file-passed}
 
 -- a metric's number
 metric-of : (m : ℕ) → (1 ≤ m) × (m ≤ 2) → (m ≡ 1) ⊎ (m ≡ 2)

@@ -9,7 +9,7 @@ use Rattle.content.specs.Content.{contentOf}
 use Rattle.content.specs.Bytes.{bytesOf}
 use Rattle.content.specs.Adding.{started, added}
 use Rattle.content.specs.Filing.{filingForm}
-use Rattle.build.specs.Answer.{Outcome, outcome}
+use Rattle.image.specs.Answer.{Outcome, outcome}
 use Rattle.build.specs.Rules.{startRules, addRules, fileRules}
 
 abbrev pub strainOf : ℕ → List ℤ → Strain

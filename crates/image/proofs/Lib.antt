@@ -7,3 +7,4 @@ pub mod First
 pub mod Verdicts
 pub mod Faults
 pub mod Answers
+pub mod Outcomes

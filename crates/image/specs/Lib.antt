@@ -7,3 +7,4 @@ pub mod Refusals
 pub mod First
 pub mod Verdict
 pub mod Faults
+pub mod Answer

@@ -4,7 +4,8 @@ use mathlib.Core.List.{List}
 use Prim.Native.Nat.{ℕ}
 use native.Mathlib.Omega.{arith}
 use Rattle.image.proofs.Answers.{told-by}
-use Rattle.search.specs.Answer.{Answer, Outcome, Counts, sittingAnswer, withinAnswer}
+use Rattle.image.specs.Answer.{Answer}
+use Rattle.search.specs.Answer.{Outcome, Counts, sittingAnswer, withinAnswer}
 use Rattle.search.specs.declared.Served.{Served}
 use Rattle.search.specs.declared.Gathered.{Gathered}
 

@@ -21,7 +21,8 @@ use Rattle.walk.specs.Walk.{opens}
 use Rattle.walk.specs.Weighed.{weighed, foundAt, reachAt}
 use Rattle.walk.specs.Measured.{measuredIn, isMeasured, measuredFrom, measuredCount}
 use Rattle.search.specs.Ranked.{ranked, nearest, inside, near, plateAt, places, rows}
-use Rattle.search.specs.Answer.{given, outcome}
+use Rattle.image.specs.Answer.{given}
+use Rattle.search.specs.Answer.{outcome}
 use Rattle.search.specs.Rules.{plateRules, sittingRules, withinRules}
 use Rattle.search.specs.Calls.{sittingOf, withinOf}
 use Rattle.search.proofs.Outcomes.{long-enough, plate-fits}

@@ -20,7 +20,8 @@ use Rattle.checker.specs.Check.{checkRules, checkOf}
 use Rattle.checker.proofs.Table.{tells-other}
 use Rattle.checker.proofs.Passed.{or-false}
 use Rattle.checker.proofs.Accepted.{accepted-exactly}
-use Rattle.search.specs.Answer.{given, denied, Outcome, outcome, handed}
+use Rattle.image.specs.Answer.{given, denied}
+use Rattle.search.specs.Answer.{Outcome, outcome, handed}
 use Rattle.search.specs.Rules.{short, radiusRules}
 use Rattle.search.specs.Calls.{around}
 use Rattle.search.specs.Steps.{Lists}

@@ -70,6 +70,9 @@ nearest-few : (xs : List ℕ) (k : ℕ) (plate : List ℤ) → length (nearest x
 unfolding nearest
 nearest-few xs k plate = rw length-take (omega arith)
 
+pub nearest-places : (xs : List ℕ) (k : ℕ) (plate : List ℤ) (part : Found → ℕ) → length (places k part (nearest xs k plate)) ≡ k
+nearest-places xs k plate part = places-length k part (nearest xs k plate) (nearest-few xs k plate)
+
 module _ (xs : List ℕ) (plates : List ℤ) (k : ℕ) (part : Found → ℕ) where
   -- one plate more
   rows-last : (j many : ℕ) → rows xs k part plates j (suc many) ≡ rows xs k part plates j many ++ places k part (nearest xs k (plateAt xs plates (j + many)))
@@ -83,7 +86,7 @@ module _ (xs : List ℕ) (plates : List ℤ) (k : ℕ) (part : Found → ℕ) wh
   rows-length : (j many : ℕ) → length (rows xs k part plates j many) ≡ many * k
   unfolding rows
   rows-length j zero = omega arith
-  rows-length j (suc many) = simp length-append (omega (arith, places-length k part (nearest xs k (plateAt xs plates j)) (nearest-few xs k (plateAt xs plates j)), rows-length (suc j) many, row-next k many))
+  rows-length j (suc many) = simp length-append (omega (arith, nearest-places xs k (plateAt xs plates j) part, rows-length (suc j) many, row-next k many))
 
   module _ (lent : List ℕ) where
     pub serving-none : Serving xs plates k part lent 0 lent

@@ -16,7 +16,8 @@ use Rattle.image.specs.Verdict.{accepted, refused, judge}
 use Rattle.image.proofs.Verdicts.{hit, pass}
 use Rattle.checker.specs.Tests.{outside}
 use Rattle.checker.proofs.Passed.{or-false, inside}
-use Rattle.search.specs.Answer.{given, handed}
+use Rattle.image.specs.Answer.{given}
+use Rattle.search.specs.Answer.{handed}
 use Rattle.search.specs.Rules.{short, plateRules}
 use Rattle.search.specs.Calls.{codeIn, distanceIn, served, sat}
 use Rattle.search.specs.Steps.{Seated}

@@ -9,7 +9,7 @@ use native.Mathlib.Nat.{zero-add}
 use native.Mathlib.Omega.{arith}
 use lib.Dec.{eqb}
 use lib.IntN.{ℤ}
-use lib.ListN.{length, getD, take, drop, length-append, length-map, length-replicate, length-take, take-append-drop}
+use lib.ListN.{length, getD, take, drop, length-take, take-append-drop}
 use lib.Seq.{take-at, drop-append-add}
 use borrow.Author.Tests.{le-leb, eq-eqb}
 use Rattle.profile.specs.Distance.{Profile}
@@ -33,9 +33,11 @@ use Rattle.walk.specs.Walk.{noFound, worst, opens}
 use Rattle.walk.specs.Weighed.{weighed, foundAt, reachAt}
 use Rattle.walk.specs.Measured.{measuredIn, isMeasured, measuredFrom, measuredCount}
 use Rattle.search.specs.Ranked.{ranked, nearest, inside, near, platesIn, plateAt, places, rows}
-use Rattle.search.specs.Answer.{Answer, given, denied, Outcome, Counts, outcome}
+use Rattle.image.specs.Answer.{Answer, given, denied}
+use Rattle.search.specs.Answer.{Outcome, Counts, outcome}
 use Rattle.search.specs.Rules.{plateRules, sittingRules, radiusRules, withinRules}
 use Rattle.search.specs.Calls.{codeIn, distanceIn, served, sittingOf, listed, withinOf}
+use Rattle.search.proofs.Serves.{nearest-places}
 use Rattle.search.proofs.Lists.{inside-mem, mem-inside, inside-ascending, inside-distinct, inside-append, inside-all}
 use Rattle.search.proofs.Lists.{weighed-distinct, library-codes}
 use Rattle.search.proofs.Lists.{ranked-length, ranked-ascending, ranked-mem, mem-ranked, ranked-codes, ranked-distinct}
@@ -165,10 +167,6 @@ given-accepted accepted good codes distances t e = refl
 given-accepted (refused m p) good codes distances t e = let z : _≡_ {A = ℕ} 0 1 = cc in absurd (omega arith)
 
 module _ (xs : List ℕ) (k : ℕ) (part : Found → ℕ) where
-  places-length : (plate : List ℤ) → length (places k part (nearest xs k plate)) ≡ k
-  unfolding places nearest
-  places-length plate = simp (length-append, length-map, length-replicate, length-take) (omega arith)
-
   -- plate j + i among the rows of the plates from j on
   rows-at : (plates : List ℤ) (rest : List ℕ) (j i many : ℕ) → i < many
       → take k (drop (i * k) (rows xs k part plates j many ++ rest)) ≡ places k part (nearest xs k (plateAt xs plates (j + i)))
@@ -179,10 +177,10 @@ module _ (xs : List ℕ) (k : ℕ) (part : Found → ℕ) where
       let s : j + 0 ≡ j = omega arith in
       let here = places k part (nearest xs k (plateAt xs plates j)) in
       rw (z, s, append-assoc here (rows xs k part plates (suc j) many) rest)
-      (take-at here (rows xs k part plates (suc j) many ++ rest) k (places-length (plateAt xs plates j)))
+      (take-at here (rows xs k part plates (suc j) many ++ rest) k (nearest-places xs k (plateAt xs plates j) part))
   rows-at plates rest j (suc i) (suc many) h =
       let here = places k part (nearest xs k (plateAt xs plates j)) in
-      let z : suc i * k ≡ length here + i * k = omega (arith, places-length (plateAt xs plates j)) in
+      let z : suc i * k ≡ length here + i * k = omega (arith, nearest-places xs k (plateAt xs plates j) part) in
       let s : j + suc i ≡ suc j + i = omega arith in
       rw (z, s, append-assoc here (rows xs k part plates (suc j) many) rest, drop-append-add here (rows xs k part plates (suc j) many ++ rest) (i * k))
       (rows-at plates rest (suc j) i many (omega arith))

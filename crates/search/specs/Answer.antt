@@ -1,16 +1,11 @@
 -- What a search hands back. Assumes nothing.
 use mathlib.Core.List.{List}
 use Prim.Native.Nat.{ℕ}
-use Rattle.image.specs.declared.refusal.Place.{Place}
 use Rattle.image.specs.Refusals.{numberOf, placeOf}
 use Rattle.image.specs.Verdict.{Verdict, accepted, refused}
+use Rattle.image.specs.Answer.{Answer, given, denied}
 use Rattle.search.specs.declared.Served.{Served}
 use Rattle.search.specs.declared.Gathered.{Gathered}
-
--- what is told, or a refusal by its number and place
-pub data Answer (Told : Type 0) : Type 0 where
-  given : Told → Answer Told
-  denied : ℕ → Place → Answer Told
 
 -- the answer, and the whole of both lent slices
 pub record Outcome (Told : Type 0) : Type 0 where

@@ -8,7 +8,8 @@ use Rattle.image.specs.Fields.{countOf}
 use Rattle.image.specs.Verdict.{judge}
 use Rattle.search.specs.Ranked.{near, platesIn, rows}
 use Rattle.walk.specs.Measured.{measuredCount}
-use Rattle.search.specs.Answer.{Outcome, given, Counts, outcome}
+use Rattle.image.specs.Answer.{given}
+use Rattle.search.specs.Answer.{Outcome, Counts, outcome}
 use Rattle.search.specs.Rules.{sittingRules, withinRules}
 
 -- the parts of a strain found that are written

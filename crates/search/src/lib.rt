@@ -6,12 +6,12 @@ ghost use Rattle.search.specs.Calls.{sittingOf, withinOf};
 use checker::Checked;
 use image::refusal::Refusal;
 
+pub mod sit; // sit.rt: a sitting over an accepted library
 mod inside; // inside.rt: the strains within a radius
 mod nearest; // nearest.rt: the nearest strains of one plate
 mod put; // put.rt: what was found, written
 mod radius; // radius.rt: the search within a radius of an accepted library
 mod serve; // serve.rt: the plates of a sitting, one after the other
-mod sit; // sit.rt: a sitting over an accepted library
 
 pub enum Served {
     Filled(usize), // how many of each plate's places hold a strain

@@ -1,54 +1,30 @@
-//! Times the proved library beside plain C and plain Rust, and compares their answers.
-mod alike;
+//! Times the proved library beside plain Rust and plain C, in one table, and measures the stack of its calls. Each way of doing the same
+//! must come to the same answer in every round, or nothing is told.
 mod builds;
+mod cases;
 mod checks;
-mod data;
 mod distances;
-mod doors;
+mod goals;
 mod harness;
-mod images;
-mod lent;
-mod library;
-mod near;
 mod plain_c;
-mod plain_rust;
-mod searches;
+mod scan;
+mod shorts;
+mod sittings;
+mod slices;
 mod stack;
-mod tally;
-mod verdict;
+mod table;
+mod walk;
+mod withins;
 
+use plain::data::Random;
 use std::process::ExitCode;
 
-const USAGE: &str = "usage: bench [--quick | --examples]
-  (nothing)   compare, then time each call over many rounds
-  --quick     compare, then time each call over few
-  --examples  print the worked examples of levels, distances, checks, building and searches";
-
-fn main() -> ExitCode {
-    let arguments: Vec<String> = std::env::args().skip(1).collect();
-    match arguments.iter().map(String::as_str).collect::<Vec<_>>()[..] {
-        [] => measure(&Effort { built: 50_000, searched: 50_000, profiles: 1024, libraries: &[16, 64, 256, 1024], rounds: 15 }),
-        ["--quick"] => measure(&Effort { built: 6_000, searched: 6_000, profiles: 128, libraries: &[16, 256], rounds: 3 }),
-        ["--examples"] => {
-            distances::examples();
-            checks::examples();
-            builds::examples();
-            searches::examples();
-            ExitCode::SUCCESS
-        }
-        _ => {
-            eprintln!("{USAGE}");
-            ExitCode::from(2)
-        }
-    }
-}
+const USAGE: &str = "usage: bench [--quick]
+  (nothing)  every case, over many rounds
+  --quick    few sizes, over few rounds";
 
 /// How much is done.
 struct Effort {
-    /// Libraries to add to and to file.
-    built: usize,
-    /// Libraries to search in.
-    searched: usize,
     /// Profiles to time distances of.
     profiles: usize,
     /// Sizes of libraries to time checks of and searches in.
@@ -57,17 +33,22 @@ struct Effort {
     rounds: usize,
 }
 
-/// Compares first: a time is worth nothing where the answers differ.
-fn measure(effort: &Effort) -> ExitCode {
-    let mut random = data::Random::new(1);
-    let compared = compare(&mut random, effort);
-    if compared.is_ok() {
-        distances::time(&mut random, effort.profiles, effort.rounds);
-        checks::time(&mut random, effort.libraries, effort.rounds);
-        builds::time(&mut random, effort.rounds);
-        searches::time(&mut random, effort.libraries, effort.rounds);
+fn main() -> ExitCode {
+    let arguments: Vec<String> = std::env::args().skip(1).collect();
+    match arguments.iter().map(String::as_str).collect::<Vec<_>>()[..] {
+        [] => measure(&Effort { profiles: 1024, libraries: &[16, 64, 256, 1024], rounds: 15 }),
+        ["--quick"] => measure(&Effort { profiles: 128, libraries: &[16, 256], rounds: 3 }),
+        _ => {
+            eprintln!("{USAGE}");
+            ExitCode::from(2)
+        }
     }
-    match compared.and_then(|()| stack::measure(&mut random)) {
+}
+
+fn measure(effort: &Effort) -> ExitCode {
+    let mut random = Random::new(1);
+    time(effort, &mut random);
+    match stack::measure(&mut random) {
         Ok(()) => ExitCode::SUCCESS,
         Err(what) => {
             eprintln!("bench: {what}");
@@ -76,17 +57,14 @@ fn measure(effort: &Effort) -> ExitCode {
     }
 }
 
-fn compare(random: &mut data::Random, effort: &Effort) -> Result<(), String> {
-    let count = distances::compare(random, 200_000)?;
-    println!("{count} answers compared, all alike");
-    let counts = checks::compare(random, 20_000)?;
-    println!("{} checks compared, all alike", counts.iter().sum::<usize>());
-    println!("of these {} accepted, and refused by 1 to 13: {:?}", counts[0], &counts[1..]);
-    for tally in builds::compare(random, effort.built)? {
-        println!("compared, all alike: {tally}");
-    }
-    let searches::Compared { sittings, plates, withins } = searches::compare(random, effort.searched)?;
-    println!("compared, all alike: {sittings}; {plates} plates served");
-    println!("compared, all alike: {withins}");
-    Ok(())
+fn time(effort: &Effort, random: &mut Random) {
+    let mut table = table::Table::new();
+    distances::time(&mut table, random, effort.profiles, effort.rounds);
+    checks::time(&mut table, random, effort.libraries, effort.rounds);
+    builds::time(&mut table, random, effort.rounds);
+    let cases = cases::cases(effort.libraries, random);
+    sittings::time(&mut table, &cases, effort.rounds);
+    withins::time(&mut table, &cases, effort.rounds);
+    shorts::time(&mut table, &cases, effort.rounds);
+    goals::tell(&table);
 }

@@ -1,9 +1,11 @@
 //! The same in plain C (plain.c, plain_check.c, plain_search.c).
-use crate::{doors::search, verdict::Verdict};
+use plain::verdict::Verdict;
+
+/// Image, plates, the neighbours asked for or the radius, codes and distances. A slice passes as pointer and length.
+type Search = unsafe extern "C" fn(*const u8, usize, *const i16, usize, u32, *mut u32, usize, *mut u32, usize) -> u64;
 
 mod door {
     extern "C" {
-        pub fn plain_lists(metric: u8, a: *const i16, b: *const i16, wells: usize) -> u32;
         pub fn plain_plate_row(metric: u8, profiles: *const u8, plate: *const i16, wells: usize, count: usize, limit: u32) -> u32;
         pub fn plain_pair_row(metric: u8, one: *const u8, profiles: *const u8, wells: usize, count: usize, limit: u32) -> u32;
         pub fn plain_check(image: *const u8, image_len: usize) -> u64;
@@ -30,17 +32,13 @@ mod door {
             distances: *mut u32,
             distances_len: usize,
         ) -> u64;
+        pub fn plain_short(image: *const u8, image_len: usize, plate: *const u8, plate_len: usize, out: *mut u8, out_len: usize) -> u32;
     }
-}
-
-pub fn lists(metric: u8, a: &[i16], b: &[i16]) -> u32 {
-    assert!(b.len() == a.len());
-    // SAFETY: the slices hold all that is read. So they do in each function below.
-    unsafe { door::plain_lists(metric, a.as_ptr(), b.as_ptr(), a.len()) }
 }
 
 pub fn plate_row(metric: u8, image: &[u8], from: usize, plate: &[i16], count: usize, limit: u32) -> u32 {
     let profiles = &image[from..from + count * 2 * plate.len()];
+    // SAFETY: the slices hold all that is read. So they do in each function below.
     unsafe { door::plain_plate_row(metric, profiles.as_ptr(), plate.as_ptr(), plate.len(), count, limit) }
 }
 
@@ -66,4 +64,15 @@ pub fn sitting(image: &[u8], plates: &[i16], k: u32, codes: &mut [u32], distance
 
 pub fn within(image: &[u8], plate: &[i16], radius: u32, codes: &mut [u32], distances: &mut [u32]) -> Verdict {
     search(door::plain_within, image, plate, radius, codes, distances)
+}
+
+pub fn short(image: &[u8], plate: &[u8], out: &mut [u8]) {
+    let refusal = unsafe { door::plain_short(image.as_ptr(), image.len(), plate.as_ptr(), plate.len(), out.as_mut_ptr(), out.len()) };
+    assert_eq!(refusal, 0);
+}
+
+/// Any bytes, numbers and lengths will do.
+fn search(door: Search, image: &[u8], plates: &[i16], number: u32, codes: &mut [u32], distances: &mut [u32]) -> Verdict {
+    let (codes, codes_len, distances, distances_len) = (codes.as_mut_ptr(), codes.len(), distances.as_mut_ptr(), distances.len());
+    Verdict(unsafe { door(image.as_ptr(), image.len(), plates.as_ptr(), plates.len(), number, codes, codes_len, distances, distances_len) })
 }

@@ -1,8 +1,8 @@
 //! The stack that a call uses. It is made on a piece of memory painted beforehand, and the deepest byte that is no longer paint tells.
-use crate::{
-    data::Random,
+use plain::{
+    data::{bytes_of, Random},
     images::{deepest, made, Data, Kind, Library, Order},
-    library,
+    layout::{growth, length},
 };
 use std::arch::asm;
 
@@ -11,7 +11,7 @@ const MOST: usize = 16_384;
 const ROOM: usize = 1 << 20;
 const PAINT: u8 = 0xa5;
 
-const CALLS: [&str; 6] = ["check", "start", "add", "filing", "sitting", "within"];
+const CALLS: [&str; 7] = ["check", "start", "add", "filing", "sitting", "within", "short"];
 
 /// Prints the most stack that each call uses, in full libraries of every width and metric and in the deepest.
 pub fn measure(random: &mut Random) -> Result<(), String> {
@@ -35,20 +35,21 @@ pub fn measure(random: &mut Random) -> Result<(), String> {
 
 /// Each call once, in that order. The add puts back the library's last strain.
 fn in_library(mut tree: Library, random: &mut Random) -> [usize; CALLS.len()] {
-    let (image, wells, metric) = (tree.bytes(), tree.records[0].profile.len(), tree.metric);
+    let (image, wells, metric) = (tree.bytes(), tree.wells(), tree.metric);
     let new = tree.records.pop().expect("a library has a strain");
-    let mut buffer = [tree.bytes(), vec![0; 8 + 2 * wells]].concat();
-    let stated = buffer.len() - 8 - 2 * wells;
+    let (mut buffer, stated) = (tree.bytes(), image.len() - growth(wells));
+    buffer.resize(image.len(), 0);
     let plates: Vec<i16> = (0..64 * wells).map(|_| random.well()).collect();
-    let (mut lone, mut form) = (vec![0; 24 + 2 * wells], vec![0; image.len()]);
-    let (mut codes, mut distances) = (vec![0; 64 * 32], vec![0; 64 * 32]);
+    let (mut lone, mut form) = (vec![0; length(1, wells)], vec![0; image.len()]);
+    let (mut codes, mut distances, mut out) = (vec![0; 64 * 32], vec![0; 64 * 32], [0; 40]);
     [
-        used(&mut || assert!(!library::check(&image).refused())),
-        used(&mut || assert!(!library::start(wells as u32, metric as u32, new.code, &new.profile, &mut lone).refused())),
-        used(&mut || assert!(!library::add(&mut buffer, stated, new.code, &new.profile).refused())),
-        used(&mut || assert!(!library::file(&image, &mut form).refused())),
-        used(&mut || assert!(!library::sitting(&image, &plates, 32, &mut codes, &mut distances).refused())),
-        used(&mut || assert!(!library::within(&image, &plates[..wells], u32::MAX, &mut codes, &mut distances).refused())),
+        used(&mut || assert!(!proved::check(&image).refused())),
+        used(&mut || assert!(!proved::start(wells as u32, metric as u32, new.code, &new.profile, &mut lone).refused())),
+        used(&mut || assert!(!proved::add(&mut buffer, stated, new.code, &new.profile).refused())),
+        used(&mut || assert!(!proved::file(&image, &mut form).refused())),
+        used(&mut || assert!(!proved::sitting(&image, &plates, 32, &mut codes, &mut distances).refused())),
+        used(&mut || assert!(!proved::within(&image, &plates[..wells], u32::MAX, &mut codes, &mut distances).refused())),
+        used(&mut || assert!(!proved::short(&image, &bytes_of(&plates[..wells]), &mut out).refused())),
     ]
 }
 

@@ -7,7 +7,7 @@ use Rattle.image.specs.declared.refusal.Refusal.the-variants.{Size}
 use Rattle.checker.specs.Check.{answerOf}
 use Rattle.checker.proofs.Accepted.{if-accepted}
 use Rattle.build.specs.Calls.{addOf}
-use Rattle.build.proofs.Outcomes.{when-refused, after-rules}
+use Rattle.image.proofs.Outcomes.{when-refused, after-rules}
 use Rattle.build.proofs.Calls.{add-beyond, add-image, add-checked}
 use Rattle.build.proofs.add.Statement.{statement}
 use Rattle.build.proofs.add.Tie as tie

@@ -6,7 +6,7 @@ use Rattle.image.specs.declared.refusal.Refusal.the-variants.{Room}
 use Rattle.checker.specs.Check.{answerOf}
 use Rattle.checker.proofs.Accepted.{if-accepted}
 use Rattle.build.specs.Calls.{fileOf}
-use Rattle.build.proofs.Outcomes.{when-refused, when-given}
+use Rattle.image.proofs.Outcomes.{when-refused, when-given}
 use Rattle.build.proofs.Calls.{file-image, file-room, file-passes}
 use Rattle.build.proofs.file.Statement.{statement}
 use Rattle.build.proofs.file.Tie as tie

@@ -10,7 +10,7 @@ use Rattle.checker.proofs.Passed.{inside}
 use Rattle.content.specs.Bytes.{Bytes}
 use Rattle.build.specs.Rules.{sizeOf}
 use Rattle.build.specs.Calls.{startOf}
-use Rattle.build.proofs.Outcomes.{when-refused, when-given}
+use Rattle.image.proofs.Outcomes.{when-refused, when-given}
 use Rattle.build.proofs.Calls.{start-wells, start-metric, start-profile, start-code, start-room, start-passes}
 use Rattle.build.proofs.Starts.{started-buffer, started-long}
 use Rattle.build.proofs.start.Statement.{statement}

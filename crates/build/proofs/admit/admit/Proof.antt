@@ -2,7 +2,7 @@
 use mathlib.Core.Path.{sym}
 use lib.Seq.{length-take-le}
 use borrow.Author.Needs.{needs}
-use Rattle.build.proofs.Outcomes.{when-refused, after-rules}
+use Rattle.image.proofs.Outcomes.{when-refused, after-rules}
 use Rattle.build.proofs.Calls.{offer-refused, offer-seat}
 use Rattle.build.proofs.admit.admit.Statement.{statement}
 use Rattle.build.proofs.admit.admit.Tie as tie

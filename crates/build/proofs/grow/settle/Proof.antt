@@ -10,7 +10,8 @@ use Rattle.image.specs.declared.refusal.Refusal.the-variants.{Full, Room}
 use Rattle.image.specs.Fields.{wellsOf, countOf}
 use Rattle.build.specs.Rules.{sizeOf}
 use Rattle.build.proofs.Widens.{stated-is, image-header}
-use Rattle.build.proofs.Outcomes.{when-refused, when-given, is-full, too-small, has-room}
+use Rattle.image.proofs.Outcomes.{when-refused, when-given}
+use Rattle.build.proofs.Room.{is-full, too-small, has-room}
 use Rattle.build.proofs.grow.settle.Statement.{statement}
 use Rattle.build.proofs.grow.settle.Tie as tie
 

@@ -1,0 +1,13 @@
+-- `kw_file` meets its contract. Assumes nothing.
+use borrow.Author.Needs.{needs}
+use Rattle.host.proofs.Answers.{wrote}
+use Rattle.host.proofs.kw_file.Statement.{statement}
+use Rattle.host.proofs.kw_file.Tie as tie
+
+pub kw-file-spec : {M : Type 1} → statement M
+kw-file-spec =
+    tie.close
+    (tie.spec (λ c κs. search needs)
+    (λ c κs. search needs)
+    (λ c. search needs)
+    (λ c. wrote (c .before .before .before .file .result) _ _ (c .before .before .before .file .ensures) (c .built .ensures)))

@@ -1,0 +1,43 @@
+// A library as text: its listing, and what the listing program prints of any bytes.
+ghost use mathlib.Core.Path.{_≡_};
+ghost use mathlib.Core.List.{_++_};
+ghost use lib.ListN.{length, drop};
+ghost use Rattle.text.specs.Calls.{listOf, handed, printed};
+use checker::Checked;
+use image::refusal::Place;
+use image::refusal::Refusal;
+
+mod line; // line.rt: the header's line, and a record's
+mod lines; // lines.rt: a whole listing
+mod number; // number.rt: numbers in decimal
+mod word; // word.rt: words
+
+pub enum Listed {
+    Length(usize), // how many bytes the listing takes
+    Refused(Refusal),
+}
+
+// The listing of a library, in the front of the room. Every listing fits into 147456 bytes.
+pub fn list(image: &[u8], room: &mut [u8]) -> Listed
+    ensures { λ r. ⌜ handed r (now (room .exit)) ≡ listOf (now (image .entry)) (now (room .entry)) ⌝ }
+{
+    match checker::check(image) {
+        Checked::Refused(refusal) => Listed::Refused(refusal),
+        Checked::Accepted => {
+            if room.len() < 147456 {
+                return Listed::Refused(Refusal::Room(Place::None));
+            }
+            Listed::Length(lines::put(room, image))
+        }
+    }
+}
+
+// What the listing program prints: the listing, or `refused` and the number. The result is how many bytes of the page it takes.
+pub fn print(image: &[u8], page: &mut [u8; 147456]) -> usize
+    ensures { λ r. ⌜ (r ≡ length (printed (now (image .entry)))) × (now (page .exit) ≡ printed (now (image .entry)) ++ drop r (now (page .entry))) ⌝ }
+{
+    match list(image, page) {
+        Listed::Length(length) => length,
+        Listed::Refused(refusal) => line::put_refused(page, image::refusal::number(refusal) as u32),
+    }
+}
