@@ -5,7 +5,7 @@ use Prim.Native.Nat.{ℕ, _+_, _*_, _≤_, _<_}
 use native.Mathlib.Numerals.{add-one}
 use native.Mathlib.Omega.{arith}
 use lib.IntN.{ℤ}
-use lib.ListN.{length, getD, take, drop, length-append}
+use lib.ListN.{length, getD, take, drop}
 use lib.Seq.{take-at, take-all, take-suc}
 use Rattle.profile.specs.Bytes.{wellsAt}
 use Rattle.profile.proofs.Reading.{wells-length}
@@ -33,10 +33,6 @@ use Rattle.build.proofs.Grows.{laid-of, spares-to}
 
 abbrev nobody : Strain
 nobody = noRecord .strain
-
--- a profile that was read into an array fills its front
-pub read-fits : (image : List ℕ) (at wells : ℕ) {xs : List ℤ} (rest : List ℤ) → xs ≡ wellsAt image at wells ++ rest → wells ≤ length xs
-read-fits image at wells rest e = rw e (omega (arith, length-append (wellsAt image at wells) rest, wells-length image at wells))
 
 -- the numbers that the code has of a library
 pub record Numbers (image : List ℕ) (wells count : ℕ) : Type 0 where

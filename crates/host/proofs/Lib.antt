@@ -1,9 +1,6 @@
 -- What the proofs of the calls share, and what the interface promises.
 pub mod Answers
-pub mod Turns
-pub mod Shorts
 pub mod Words
 pub mod Fits
 pub mod Values
 pub mod Readings
-pub mod Theorems

@@ -5,7 +5,6 @@ use Prim.Native.Nat.{ℕ}
 use Rattle.image.specs.Answer.{Outcome}
 use Rattle.search.specs.Answer as search
 use Rattle.host.specs.Word.{first, answerWord}
-use Rattle.host.specs.Short.{numberIn}
 
 -- of a call that writes to the front of one buffer
 pub record Wrote (o : Outcome) (word : ℕ) (buffer : List ℕ) : Type 0 where
@@ -17,8 +16,3 @@ pub record Searched {Told : Type 0} (told : Told → ℕ) (o : search.Outcome To
   pub isWord : word ≡ answerWord told (o .answer)
   pub isCodes : codes ≡ o .codes
   pub isDistances : distances ≡ o .distances
-
--- of the short call
-pub record Numbered (o : Outcome) (number : ℕ) (out : List ℕ) : Type 0 where
-  pub isNumber : number ≡ numberIn (o .answer)
-  pub isOut : out ≡ o .buffer

@@ -1,6 +1,4 @@
--- What the contracts of the C interface cite besides the library's own definitions, how a word is read, and the short call's table.
+-- What the contracts of the C interface cite besides the library's own definitions, and how a word is read.
 pub mod Word
 pub mod Doors
-pub mod Short
 pub mod Reading
-pub mod Table

@@ -4,12 +4,11 @@ ghost use mathlib.Core.Path.{_≡_};
 ghost use Rattle.checker.specs.Check.{checkOf};
 ghost use Rattle.build.specs.Calls.{startOf, addOf, fileOf};
 ghost use Rattle.search.specs.Calls.{sittingOf, withinOf};
+ghost use Rattle.short.specs.Short.{shortOf, Numbered};
 ghost use Rattle.host.specs.Word.{first, counts, verdictWord};
-ghost use Rattle.host.specs.Short.{shortOf};
-ghost use Rattle.host.specs.Doors.{Wrote, Searched, Numbered};
+ghost use Rattle.host.specs.Doors.{Wrote, Searched};
 use checker::Checked;
 
-mod short; // short.rt: the short call
 mod word; // word.rt: the answer word
 
 // The check of a library.
@@ -86,8 +85,5 @@ pub extern "C" fn kw_within(
 pub extern "C" fn kw_short(image: &[u8], plate: &[u8], out: &mut [u8]) -> u32
     ensures { λ r. ⌜ Numbered (shortOf (now (image .entry)) (now (plate .entry)) (now (out .entry))) r (now (out .exit)) ⌝ }
 {
-    match checker::check(image) {
-        Checked::Refused(refusal) => image::refusal::number(refusal) as u32,
-        Checked::Accepted => short::serve(image, plate, out),
-    }
+    short::short(image, plate, out)
 }

@@ -3,7 +3,8 @@ use mathlib.Core.Path.{sym}
 use native.Mathlib.Omega.{arith}
 use lib.Seq.{length-take-le}
 use borrow.Author.Needs.{needs}
-use Rattle.build.proofs.Files.{Numbers, numbers, strain-asks, read-fits, strain-read, filing-first}
+use Rattle.order.proofs.Profiles.{read-fits}
+use Rattle.build.proofs.Files.{Numbers, numbers, strain-asks, strain-read, filing-first}
 use Rattle.build.proofs.filing.lay_first.Statement.{statement}
 use Rattle.build.proofs.filing.lay_first.Tie as tie
 

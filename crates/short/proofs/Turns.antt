@@ -7,7 +7,7 @@ use lib.ListN.{length, take, getD}
 use lib.Seq.{sets, take-all, take-length}
 use Rattle.content.specs.Bytes.{bytes32}
 use Rattle.writer.proofs.Stores.{sets-on}
-use Rattle.host.specs.Short.{byTurns}
+use Rattle.short.specs.Short.{byTurns}
 
 pub turns-length : (i : ℕ) (codes distances : List ℕ) → i ≤ length codes → i ≤ length distances → length (byTurns (take i codes) (take i distances)) ≡ 8 * i
 unfolding byTurns

@@ -1,14 +1,14 @@
--- `short::write` meets its contract: the places so far are written, by turns. Assumes nothing.
+-- `write` meets its contract: the places so far are written, by turns. Assumes nothing.
 use mathlib.Core.Path.{_≡_, refl, _∙_, ap, ap₂}
 use Prim.Native.Nat.{_+_, _-_, _≤_}
 use native.Mathlib.Omega.{arith}
 use lib.ListN.{length, take}
 use lib.Seq.{sets, length-sets, take-all}
 use borrow.Author.Needs.{needs}
-use Rattle.host.specs.Short.{byTurns}
-use Rattle.host.proofs.Turns.{turns-put}
-use Rattle.host.proofs.short.write.Statement.{statement}
-use Rattle.host.proofs.short.write.Tie as tie
+use Rattle.short.specs.Short.{byTurns}
+use Rattle.short.proofs.Turns.{turns-put}
+use Rattle.short.proofs.write.Statement.{statement}
+use Rattle.short.proofs.write.Tie as tie
 
 abbrev Inv-loop : tie.InvT-loop
 Inv-loop out₀ codes distances i₀ i-end out i =

@@ -1,17 +1,17 @@
--- `kw_short` meets its contract: the check, and then the short call over an accepted library. Assumes nothing.
+-- `short` meets its contract: the check, and then the short call over an accepted library. Assumes nothing.
 use mathlib.Core.Path.{sym, _∙_, ap}
 use borrow.Author.Needs.{needs}
 use Rattle.checker.specs.Check.{answerOf}
 use Rattle.checker.proofs.Accepted.{if-accepted}
 use Rattle.search.proofs.Outcomes.{image-refused, image-accepted}
-use Rattle.host.specs.Short.{shortRules, shortOf}
-use Rattle.host.proofs.Shorts.{short-refused, after-check}
-use Rattle.host.proofs.kw_short.Statement.{statement}
-use Rattle.host.proofs.kw_short.Tie as tie
+use Rattle.short.specs.Short.{shortRules, shortOf}
+use Rattle.short.proofs.Serves.{short-refused, after-check}
+use Rattle.short.proofs.short.Statement.{statement}
+use Rattle.short.proofs.short.Tie as tie
 
-pub kw-short-spec : {M : Type 1} → statement M
+pub short-spec : {M : Type 1} → statement M
 unfolding shortRules shortOf
-kw-short-spec =
+short-spec =
     tie.close
     (tie.spec (λ c κs. search needs)
     (λ c. search needs)

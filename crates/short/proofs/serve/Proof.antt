@@ -1,4 +1,4 @@
--- `short::serve` meets its contract: rules 14 and 16, and then a sitting of one plate, written by turns. Assumes nothing.
+-- `serve` meets its contract: rules 14 and 16, and then a sitting of one plate, written by turns. Assumes nothing.
 use mathlib.Core.Path.{_≡_, refl, sym, _∙_, ap}
 use mathlib.Core.List.{List}
 use Prim.Native.Nat.{_*_}
@@ -13,10 +13,10 @@ use Rattle.image.specs.declared.refusal.Place.{Place}
 use Rattle.image.specs.Fields.{wellsOf}
 use Rattle.search.specs.Ranked.{nearest, places}
 use Rattle.search.specs.Calls.{codeIn, distanceIn}
-use Rattle.build.proofs.Files.{read-fits}
-use Rattle.host.proofs.Shorts.{plate-unfit, room-unfit, both-fit, five, short-refused, short-served}
-use Rattle.host.proofs.short.serve.Statement.{statement}
-use Rattle.host.proofs.short.serve.Tie as tie
+use Rattle.order.proofs.Profiles.{read-fits}
+use Rattle.short.proofs.Serves.{plate-unfit, room-unfit, both-fit, five, short-refused, short-served}
+use Rattle.short.proofs.serve.Statement.{statement}
+use Rattle.short.proofs.serve.Tie as tie
 
 -- past rule 14
 fits : (c : tie.Else1) → length (c .before .before .before .before .before .args .plate .now) ≡ 2 * wellsOf (c .before .before .before .before .before .args .image .now)

@@ -24,9 +24,9 @@ use Rattle.search.specs.Rules as sitting
 use Rattle.search.specs.Ranked.{nearest, plateAt, places, rows}
 use Rattle.search.specs.Calls.{codeIn, distanceIn, served, sat}
 use Rattle.search.proofs.Outcomes.{long-enough}
-use Rattle.host.specs.Short.{plateRules, byTurns, fiveOf}
-use Rattle.host.specs.Doors.{Numbered}
-use Rattle.host.proofs.Turns.{turns-all}
+use Rattle.short.specs.Short.{plateRules, byTurns, fiveOf}
+use Rattle.short.specs.Short.{Numbered}
+use Rattle.short.proofs.Turns.{turns-all}
 
 module _ (xs : List ℕ) (plate out : ℕ) where
   pub plate-unfit : plate ≢ 2 * wellsOf xs → judge (plateRules xs plate out) ≡ refused 14 Place.None

@@ -1,4 +1,5 @@
 -- The short call: the five nearest strains of one plate that comes in bytes, and the whole of what was lent, on every input. Assumes nothing.
+use mathlib.Core.Path.{_≡_}
 use mathlib.Core.Bool.{not}
 use mathlib.Core.List.{List, [], _∷_, _++_}
 use Prim.Native.Nat.{ℕ, _*_}
@@ -39,3 +40,8 @@ shortOf xs plate out = outcome (judge (shortRules xs (length plate) (length out)
 abbrev pub numberIn : Answer ℕ → ℕ
 numberIn (given n) = 0
 numberIn (denied number place) = number
+
+-- what is handed back: the number, and the whole of what was lent to be written
+pub record Numbered (o : Outcome) (number : ℕ) (out : List ℕ) : Type 0 where
+  pub isNumber : number ≡ numberIn (o .answer)
+  pub isOut : out ≡ o .buffer

@@ -28,10 +28,10 @@ use Rattle.search.specs.Calls.{codeIn, distanceIn, sat, sittingOf}
 use Rattle.search.specs.Rules.{sittingRules}
 use Rattle.search.proofs.Serves.{nearest-places}
 use Rattle.search.proofs.Outcomes.{image-accepted}
-use Rattle.host.specs.Short.{plateRules, shortRules, byTurns, fiveOf, shortOf}
-use Rattle.host.specs.Table.{shortTable}
-use Rattle.host.proofs.Turns.{turns-all}
-use Rattle.host.proofs.Shorts.{both-fit, five}
+use Rattle.short.specs.Short.{plateRules, shortRules, byTurns, fiveOf, shortOf}
+use Rattle.short.specs.Table.{shortTable}
+use Rattle.short.proofs.Turns.{turns-all}
+use Rattle.short.proofs.Serves.{both-fit, five}
 
 -- ---- which refusal is given
 

@@ -1,4 +1,4 @@
-// The short call, over an accepted library.
+// The short call, for a host program in C: the five nearest strains of one plate that comes in bytes.
 ghost use mathlib.Core.Path.{_≡_};
 ghost use Prim.Native.Nat.{_*_, _≤_};
 ghost use lib.ListN.{length};
@@ -9,8 +9,8 @@ ghost use Rattle.image.specs.Library.{Library};
 ghost use Rattle.image.specs.Verdict.{judge};
 ghost use Rattle.image.specs.Answer.{outcome};
 ghost use Rattle.search.specs.Ranked.{nearest};
-ghost use Rattle.host.specs.Short.{plateRules, byTurns, fiveOf};
-ghost use Rattle.host.specs.Doors.{Numbered};
+ghost use Rattle.short.specs.Short.{plateRules, byTurns, fiveOf, shortOf, Numbered};
+use checker::Checked;
 
 // Codes and distances by turns.
 fn write(out: &mut [u8], codes: &[u32], distances: &[u32])
@@ -23,8 +23,8 @@ fn write(out: &mut [u8], codes: &[u32], distances: &[u32])
     }
 }
 
-// Rules 14 and 16, and then the five nearest.
-pub fn serve(image: &[u8], plate: &[u8], out: &mut [u8]) -> u32
+// Over an accepted library: rules 14 and 16, and then the five nearest.
+fn serve(image: &[u8], plate: &[u8], out: &mut [u8]) -> u32
     requires { ⌜ Library (now image) ⌝ }
     ensures { λ r. ⌜ Numbered (outcome (judge (plateRules (now (image .entry)) (length (now (plate .entry))) (length (now (out .entry))))) (fiveOf (nearest (now (image .entry)) 5 (wellsAt (now (plate .entry)) 0 (wellsOf (now (image .entry)))))) (now (out .entry))) r (now (out .exit)) ⌝ }
 {
@@ -42,4 +42,14 @@ pub fn serve(image: &[u8], plate: &[u8], out: &mut [u8]) -> u32
     search::sit::sit(image, &values[..wells], 5, &mut codes, &mut distances);
     write(out, &codes, &distances);
     0
+}
+
+// The result is 0 or the refusal number.
+pub fn short(image: &[u8], plate: &[u8], out: &mut [u8]) -> u32
+    ensures { λ r. ⌜ Numbered (shortOf (now (image .entry)) (now (plate .entry)) (now (out .entry))) r (now (out .exit)) ⌝ }
+{
+    match checker::check(image) {
+        Checked::Refused(refusal) => image::refusal::number(refusal) as u32,
+        Checked::Accepted => serve(image, plate, out),
+    }
 }
