@@ -1,10 +1,5 @@
 """tools/contracts: what it passes and what it refuses."""
-import subprocess
-import tempfile
-import unittest
-from pathlib import Path
-
-CONTRACTS = Path(__file__).resolve().parent.parent / "contracts"
+from fixture import Scratch
 
 # A public function with all that may stand round a contract.
 GOOD = '''// Every `pub fn` has a contract.
@@ -69,22 +64,18 @@ pub record Laws (map : ℕ → ℕ) : Type 0 where
 '''
 
 
-class Contracts(unittest.TestCase):
+class Contracts(Scratch):
     def setUp(self):
-        folder = tempfile.TemporaryDirectory()
-        self.addCleanup(folder.cleanup)
-        self.root = Path(folder.name)
+        super().setUp()
         self.write("profile/src/lib.rt", GOOD)
 
-    def write(self, path, text):
-        path = self.root / "crates" / path
-        path.parent.mkdir(parents=True, exist_ok=True)
-        path.write_text(text, encoding="utf-8")
+    def write(self, name, text):
+        super().write(f"crates/{name}", text)
 
     def check(self):
         """The lines printed and the exit status."""
-        done = subprocess.run([CONTRACTS, self.root], capture_output=True, text=True, encoding="utf-8")
-        return done.stdout.splitlines(), done.returncode
+        status, said = self.run_script("contracts")
+        return said.splitlines(), status
 
     def assert_refused(self, *lines):
         self.assertEqual(self.check(), ([f"crates/{line}" for line in lines], 1))
@@ -217,7 +208,3 @@ class Contracts(unittest.TestCase):
     def test_refuses_a_fixity(self):
         for word in "infix", "infixl", "infixr":
             self.refuse_specs(f"{word} 6 _⊕_ _+_\n", "1: `_+_` comes from Prim.Native.Nat, and is given a fixity here")
-
-
-if __name__ == "__main__":
-    unittest.main()

@@ -1,24 +1,11 @@
 """tools/imports: which names count as used."""
-import subprocess
-import tempfile
-import unittest
-from pathlib import Path
-
-IMPORTS = Path(__file__).resolve().parent.parent / "imports"
+from fixture import Scratch
 
 
-class Imports(unittest.TestCase):
-    def setUp(self):
-        folder = tempfile.TemporaryDirectory()
-        self.addCleanup(folder.cleanup)
-        self.root = Path(folder.name)
-
+class Imports(Scratch):
     def run_on(self, name, text):
-        path = self.root / "crates/profile" / name
-        path.parent.mkdir(parents=True, exist_ok=True)
-        path.write_text(text, encoding="utf-8")
-        done = subprocess.run([str(IMPORTS), str(self.root)], capture_output=True, text=True, check=False)
-        return done.returncode, done.stdout
+        self.write(f"crates/profile/{name}", text)
+        return self.run_script("imports")
 
     def test_used_names_pass(self):
         status, said = self.run_on("proofs/A.antt", "use lib.X.{_+_, suc, ap as map, if_then_else_}\nuse lib.Tie as tie\n\nf : tie.N\nf a = map (a + suc a) (if a then a else a)\n")
@@ -60,9 +47,4 @@ class Imports(unittest.TestCase):
         self.assertIn("src/lib.rt: take\n", said)
 
     def test_nothing_to_read(self):
-        done = subprocess.run([str(IMPORTS), str(self.root)], capture_output=True, text=True, check=False)
-        self.assertEqual(done.returncode, 1)
-
-
-if __name__ == "__main__":
-    unittest.main()
+        self.assertEqual(self.run_script("imports")[0], 1)

@@ -1,10 +1,6 @@
 """tools/refusals: which errors show a broken fact, and which do not."""
-import subprocess
-import tempfile
-import unittest
-from pathlib import Path
+from fixture import Scratch
 
-REFUSALS = Path(__file__).resolve().parent.parent / "refusals"
 COPY = "/somewhere/target/must-fail/profile/swapped"
 
 # What the prover says where a fact does not hold.
@@ -54,23 +50,17 @@ UNFIT = (
 )
 
 
-class Refusals(unittest.TestCase):
+class Refusals(Scratch):
     def setUp(self):
-        folder = tempfile.TemporaryDirectory()
-        self.addCleanup(folder.cleanup)
-        self.root = Path(folder.name)
+        super().setUp()
         self.write("crates/profile/must-fail/swapped.edit", "file: src/lib.rt\nold: 1\nnew: 2\n")
-
-    def write(self, path, text):
-        (self.root / path).parent.mkdir(parents=True, exist_ok=True)
-        (self.root / path).write_text(text, encoding="utf-8")
 
     def judge(self, *lines):
         """Judges the edit by a log of these lines. Gives the lines printed and the exit status."""
         if lines:
             self.write("target/must-fail/profile/swapped/.log", "\n".join(lines) + "\nlogic=not-proved\n")
-        done = subprocess.run([REFUSALS, self.root], capture_output=True, text=True, encoding="utf-8")
-        return done.stdout.splitlines(), done.returncode
+        status, said = self.run_script("refusals")
+        return said.splitlines(), status
 
     def assert_fact(self, line, *log):
         self.assertEqual(self.judge(*log), ([line, "1 of 1 must-fail edits were refused by a fact"], 0))
@@ -133,7 +123,3 @@ class Refusals(unittest.TestCase):
     def test_refuses_a_repository_with_no_edit(self):
         (self.root / "crates/profile/must-fail/swapped.edit").unlink()
         self.assertEqual(self.judge(), (["there is no must-fail edit"], 1))
-
-
-if __name__ == "__main__":
-    unittest.main()

@@ -13,12 +13,13 @@ use Rattle.image.specs.Refusals.{numberOf, placeOf}
 use Rattle.image.specs.Verdict.{accepted, refused, judge}
 use Rattle.image.proofs.Tests.{told-true, told-false}
 use Rattle.image.proofs.Verdicts.{hit, pass, accepted-none, judge-on, judge-stops}
+use Rattle.image.specs.Fields.{sizeOf}
 use Rattle.checker.specs.Tests.{outside}
 use Rattle.checker.specs.Check.{checkRules, checkOf}
 use Rattle.checker.proofs.Table.{tells-other}
-use Rattle.build.specs.Rules.{sizeOf, startRules, strainRules, addRules, fileRules}
+use Rattle.adding.specs.declared.seat.Seat.{Seat}
+use Rattle.build.specs.Rules.{startRules, strainRules, addRules, fileRules}
 use Rattle.build.specs.Steps.{Welcome, offered}
-use Rattle.build.specs.declared.seat.Seat.{Seat}
 use Rattle.build.specs.declared.offer.Offer.{Offer}
 use Rattle.build.specs.declared.offer.Offer.the-variants.{Refused, At}
 

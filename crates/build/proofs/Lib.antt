@@ -1,19 +1,9 @@
 -- The laws that the calls rest on.
-pub mod Seats
-pub mod Puts
-pub mod Hangs
 pub mod Offers
 pub mod StrainRules
 pub mod Room
-pub mod Heads
-pub mod Begins
-pub mod Widens
-pub mod Grows
-pub mod Starts
-pub mod Files
 pub mod Calls
 pub mod Passed
 pub mod Theorems
 pub mod Answers
-pub mod Examples
 pub mod Table

@@ -10,7 +10,7 @@ use lib.ListN.{length}
 use Rattle.profile.specs.Distance.{gap, distance}
 use Rattle.profile.proofs.Levels.{at-most-level}
 use Rattle.profile.proofs.Wells.{gap-self, gap-apart}
-use Rattle.image.specs.Fields.{wellsOf, metricOf, countOf, rootOf, levelAt, profileAt}
+use Rattle.image.specs.Fields.{wellsOf, metricOf, countOf, levelAt, profileAt}
 use Rattle.image.specs.First.{firstBelow}
 use Rattle.image.specs.Library.{Library}
 use Rattle.image.proofs.First.{found, none-found}
@@ -19,9 +19,9 @@ use Rattle.image.proofs.Trees.{library-metric, profile-length, library-profiles
 use Rattle.content.specs.Content.{nth, firstOf, contentOf}
 use Rattle.content.specs.Adding.{parentFor}
 use Rattle.content.proofs.Accepted.{parent-in, dist-is, chosen}
+use Rattle.adding.specs.Steps.{Filled, Seated}
+use Rattle.adding.specs.declared.seat.Seat.{Seat}
 use Rattle.build.specs.Rules.{alike, profileHeld}
-use Rattle.build.specs.Steps.{Filled, Seated}
-use Rattle.build.specs.declared.seat.Seat.{Seat}
 
 -- two profiles are alike where they are equal
 pub tells-alike : (xs ys : List ℤ) → Tells (alike xs ys) (xs ≡ ys)
@@ -37,16 +37,15 @@ tells-alike (x ∷ xs) (y ∷ ys) =
     }
 
 -- an accepted library is filled
-pub filled-library : {xs : List ℕ} → Library xs → (metric wells count root : ℕ) → metric ≡ metricOf xs → wells ≡ wellsOf xs → count ≡ countOf xs → root ≡ rootOf xs
-    → Filled xs metric wells count root count
-filled-library {xs} l metric wells count root m w n r = record {
+pub filled-library : {xs : List ℕ} → Library xs → (metric wells count : ℕ) → metric ≡ metricOf xs → wells ≡ wellsOf xs → count ≡ countOf xs
+    → Filled xs metric wells count count
+filled-library {xs} l metric wells count m w n = record {
   isMetric = m;
   isWells = w;
   isCount = n;
-  isRoot = r;
   wellsHigh = omega (arith, l .layout .wells .1);
   countHigh = omega (arith, l .layout .count .1);
-  rootIn = omega (arith, l .layout .root);
+  rootIn = omega (arith, n, l .layout .root);
   filledIn = omega arith;
   room = rw (w, n) (omega (arith, l .layout .size));
   levelIn = λ i h. l .layout .levelByte i (omega (arith, n));
@@ -56,7 +55,7 @@ filled-library {xs} l metric wells count root m w n r = record {
 pub seated-all : (xs : List ℕ) {x : List ℤ} {seat : Seat} (metric count : ℕ) → metric ≡ metricOf xs → count ≡ countOf xs
     → Seated metric x (nth (firstOf xs count .records)) seat (parentFor (firstOf xs count) x)
     → Seated (metricOf xs) x (nth (contentOf xs .records)) seat (parentFor (contentOf xs) x)
-unfolding firstOf contentOf
+unfolding contentOf
 seated-all xs {x} {seat} metric count m n s =
     transport (λ i. Seated (m i) x (nth (firstOf xs (n i) .records)) seat (parentFor (firstOf xs (n i)) x)) s
 
@@ -83,7 +82,7 @@ module _ {xs : List ℕ} (l : Library xs) (x : List ℤ) (lx : length x ≡ well
       other j h = library-profiles l j (seat .parent) (omega (arith, seat-in)) seat-in (λ q. absurd (omega arith))
 
   -- and where the nearest is further, no record has it
-  pub none-held : 0 < seat .distance → (i : ℕ) → i < countOf xs → profileAt xs i ≢ x
+  none-held : 0 < seat .distance → (i : ℕ) → i < countOf xs → profileAt xs i ≢ x
   none-held h i k e =
       let zero-far : d i ≡ 0 = rw e (library-metric l .self x) in
       absurd (omega (

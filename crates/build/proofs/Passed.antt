@@ -13,32 +13,29 @@ use Rattle.image.proofs.Verdicts.{past, when-none, first-passed, judge-both}
 use Rattle.checker.specs.Check.{checkRules, checkOf}
 use Rattle.checker.proofs.Accepted.{accepted-exactly}
 use Rattle.checker.proofs.Passed.{inside}
-use Rattle.build.specs.Rules.{sizeOf, codeTaken, profileHeld, startRules, roomRules, strainRules, addRules, fileRules}
+use Rattle.build.specs.Rules.{codeTaken, profileHeld, startRules, roomRules, strainRules, addRules, fileRules}
 use Rattle.build.proofs.Offers.{tells-alike}
 
 -- ---- start
 
-pub record Starts (wells metric code : ℕ) (profile : List ℤ) (room : ℕ) : Type 0 where
+pub record Starts (wells metric code : ℕ) (profile : List ℤ) : Type 0 where
   pub wellsIn : (1 ≤ wells) × (wells ≤ 16)
   pub metricIn : (1 ≤ metric) × (metric ≤ 2)
   pub long : length profile ≡ wells
   pub hasCode : code ≢ 0
-  pub has-room : sizeOf wells 1 ≤ room
 
-pub starts : (wells metric code : ℕ) (profile : List ℤ) (room : ℕ) → judge (startRules wells metric code profile room) ≡ accepted → Starts wells metric code profile room
+pub starts : (wells metric code : ℕ) (profile : List ℤ) (room : ℕ) → judge (startRules wells metric code profile room) ≡ accepted → Starts wells metric code profile
 unfolding startRules
 starts wells metric code profile room e =
     let a1 = past _ _ _ e in
     let a2 = past _ _ _ (a1 .1) in
     let a3 = past _ _ _ (a2 .1) in
     let a4 = past _ _ _ (a3 .1) in
-    let a5 = past _ _ _ (a4 .1) in
     record {
       wellsIn = inside 1 16 wells (when-none _ (a1 .0));
       metricIn = inside 1 2 metric (when-none _ (a2 .0));
       long = eqb-true _ _ (not-false _ (when-none _ (a3 .0)));
       hasCode = eqb-false _ _ (when-none _ (a4 .0));
-      has-room = ltb-false _ _ (when-none _ (a5 .0));
     }
 
 -- ---- add
@@ -50,7 +47,7 @@ pub record Admits (xs : List ℕ) (code : ℕ) (profile : List ℤ) : Type 0 whe
   pub newProfile : (i : ℕ) → i < countOf xs → profileAt xs i ≢ profile
   pub notFull : countOf xs ≢ 1024
 
-pub admits : (xs : List ℕ) (code : ℕ) (profile : List ℤ) (room : ℕ) → judge (strainRules xs code profile room) ≡ accepted → Admits xs code profile
+admits : (xs : List ℕ) (code : ℕ) (profile : List ℤ) (room : ℕ) → judge (strainRules xs code profile room) ≡ accepted → Admits xs code profile
 unfolding strainRules roomRules codeTaken profileHeld
 admits xs code profile room e =
     let a1 = past _ _ _ e in

@@ -5,10 +5,10 @@ use mathlib.Core.List.{List}
 use Prim.Native.Nat.{ℕ, suc, _≤_, _<_}
 use borrow.Author.Tests.{eq-eqb, ne-eqb, lt-ltb, le-ltb}
 use Rattle.image.specs.declared.refusal.Place.{Place}
-use Rattle.image.specs.Fields.{wellsOf, countOf}
+use Rattle.image.specs.Fields.{wellsOf, countOf, sizeOf}
 use Rattle.image.specs.Verdict.{accepted, refused, judge}
 use Rattle.image.proofs.Verdicts.{hit, pass, accepted-none}
-use Rattle.build.specs.Rules.{sizeOf, roomRules}
+use Rattle.build.specs.Rules.{roomRules}
 
 module _ (xs : List ℕ) (room : ℕ) where
   pub is-full : countOf xs ≡ 1024 → judge (roomRules xs room) ≡ refused 20 Place.None

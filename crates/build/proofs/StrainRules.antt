@@ -9,20 +9,20 @@ use lib.ListN.{length}
 use borrow.Author.Tests.{eq-eqb, ne-eqb}
 use Rattle.image.specs.declared.refusal.Place.{Place}
 use Rattle.image.specs.declared.refusal.Refusal.the-variants.{NewProfile, NewCode, Held}
-use Rattle.image.specs.Fields.{wellsOf, metricOf, countOf, codeAt}
+use Rattle.image.specs.Fields.{wellsOf, metricOf, countOf}
 use Rattle.image.specs.First.{firstBelow}
 use Rattle.image.specs.Library.{Library}
-use Rattle.image.proofs.First.{first-none}
-use Rattle.image.proofs.Tests.{told-true, told-false, tells-eq}
+use Rattle.image.proofs.Tests.{told-true, told-false}
 use Rattle.image.proofs.Verdicts.{hit, pass, hit-first, pass-first}
 use Rattle.checker.proofs.Table.{tells-other}
 use Rattle.content.specs.Content.{nth, contentOf}
 use Rattle.content.specs.Adding.{parentFor}
+use Rattle.adding.specs.Steps.{Seated}
+use Rattle.adding.specs.declared.seat.Seat.{Seat}
 use Rattle.build.specs.Rules.{codeTaken, strainRules}
-use Rattle.build.specs.Steps.{Seated, offered}
-use Rattle.build.specs.declared.seat.Seat.{Seat}
+use Rattle.build.specs.Steps.{offered}
 use Rattle.build.specs.declared.offer.Offer.the-variants.{Refused, At}
-use Rattle.build.proofs.Offers.{held-there, none-held, not-found, seat-in}
+use Rattle.build.proofs.Offers.{held-there, not-found, seat-in}
 
 module _ (xs : List ℕ) (code : ℕ) (profile : List ℤ) where
   pub by-profile : length profile ≢ wellsOf xs → offered xs code profile (Refused (NewProfile Place.None))
@@ -53,7 +53,7 @@ module _ (xs : List ℕ) (code : ℕ) (profile : List ℤ) where
             (hit-first _ _ _ _ _ (seat .parent) _ refl (held-there l profile w seat s z) (seat-in l profile w seat s) refl))))
 
         pub by-seat : seat .distance ≤ 1048560 → seat .distance ≢ 0 → offered xs code profile (At seat)
-        unfolding offered strainRules codeTaken
+        unfolding offered strainRules
         by-seat near ne =
             let away : 0 < seat .distance = omega (arith, ne) in
             record {
@@ -62,11 +62,5 @@ module _ (xs : List ℕ) (code : ℕ) (profile : List ℤ) where
                   (pass _ _ _ _ (ne-eqb _ _ nz)
                   (pass-first _ _ _ _ _ taken _ refl e n
                   (pass-first _ _ _ _ _ (countOf xs) _ refl (not-found l profile w seat s away) (omega arith) refl))));
-              wells = w;
-              hasCode = nz;
-              newCode = λ i h q. tells-eq (codeAt xs i) code .no (first-none (countOf xs) (codeTaken xs code) (omega (arith, e)) i h) q;
-              newProfile = none-held l profile w seat s away;
-              away = away;
-              near = near;
-              seated = s;
+              seatFor = record { wells = w; away = away; near = near; seated = s };
             }

@@ -1,45 +1,36 @@
 -- What start, add and filing do for those who use them: demand 2's last sentence and demand 3. Assumes nothing.
-use mathlib.Core.Path.{_≡_, sym, _∙_, ap, subst}
-use mathlib.Core.Logic.{_≢_, _↔_, _⊎_, inl, inr}
+use mathlib.Core.Path.{_≡_, refl, sym, _∙_, ap, subst}
+use mathlib.Core.Logic.{_≢_, _↔_}
 use mathlib.Core.List.{List, [], _∷_, _++_, List·Memᴰ}
 use Prim.Native.Nat.{ℕ, _≤_, _<_}
-use native.Mathlib.Decide.{ℕ-discrete}
 use native.Mathlib.Omega.{arith}
-use lib.IntN.{ℤ, sucℤ}
-use lib.ListN.{length, take, length-append}
+use lib.IntN.{ℤ}
+use lib.ListN.{length, take, drop, length-append}
 use Rattle.profile.specs.Distance.{Wells, distance}
-use Rattle.profile.specs.Level.{fittingLevel}
-use Rattle.tree.specs.Grow.{higher, CanTake, NearestTaker}
-use Rattle.image.specs.Fields.{metricOf, countOf, rootOf, codeAt, parentAt, levelAt, profileAt}
-use Rattle.image.specs.Strains.{Strain, strainAt, strainsOf}
+use Rattle.tree.specs.Grow.{CanTake, NearestTaker, Grown}
+use Rattle.image.specs.Fields.{wellsOf, metricOf, countOf, codeAt, profileAt}
+use Rattle.image.specs.Strains.{Strain, strainsOf, strainOf}
 use Rattle.image.specs.Library.{treeOf, Library}
 use Rattle.image.specs.Verdict.{judge}
-use Rattle.checker.proofs.Accepted.{accepted-exactly}
-use Rattle.content.specs.Content.{Kept, contentOf}
+use Rattle.image.specs.Answer.{given, outcome}
+use Rattle.image.proofs.Outcomes.{Gave, gave}
+use Rattle.checker.proofs.Accepted.{metric-is, accepted-exactly}
+use Rattle.content.specs.Content.{contentOf}
 use Rattle.content.specs.Bytes.{Bytes, bytesOf}
 use Rattle.content.specs.Adding.{started, parentFor, added}
 use Rattle.content.specs.Filing.{filingForm}
 use Rattle.content.proofs.Blocks.{bytes-take}
+use Rattle.content.proofs.Bytes.{content-of-bytes}
 use Rattle.content.proofs.Added.{added-strains}
-use Rattle.content.proofs.Accepted.{chosen, chosen-code, Fresh, added-writable, added-accepted, new-fields, root-level, same-fields, same-level}
+use Rattle.content.proofs.Accepted.{chosen, chosen-code, Fresh, added-writable, added-wells, added-metric, added-grown, added-accepted}
 use Rattle.content.proofs.Started.{Startable, started-writable, started-accepted}
-use Rattle.content.proofs.Filing.{strains-are, strains-written, file-accepted, file-length, file-same-strains, file-twice}
-use Rattle.image.specs.Answer.{given, outcome}
-use Rattle.image.proofs.Outcomes.{Gave, gave}
+use Rattle.content.proofs.Filing.{strains-are, strains-written, file-accepted, file-length, file-same-strains}
 use Rattle.build.specs.Rules.{startRules, addRules, fileRules}
-use Rattle.build.specs.Calls.{strainOf, startOf, addOf, fileOf}
+use Rattle.build.specs.Calls.{startOf, addOf, fileOf}
 use Rattle.build.proofs.Calls.{file-passes}
 use Rattle.build.proofs.Passed.{starts, add-passed, file-passed}
 
--- a metric's number
-metric-of : (m : ℕ) → (1 ≤ m) × (m ≤ 2) → (m ≡ 1) ⊎ (m ≡ 2)
-metric-of m h = go (ℕ-discrete m 1)
-  where
-    go : Dec (m ≡ 1) → (m ≡ 1) ⊎ (m ≡ 2)
-    go (yes e) = inl e
-    go (no ne) = inr (omega (arith, ne, h .0, h .1))
-
--- ---- start: the image it gives is accepted, and holds the one strain
+-- ---- start: the image it gives is accepted, and is document 01's
 
 module _ (wells metric code : ℕ) (profile : List ℤ) (buffer : List ℕ) (codeFits : code < 4294967296) (values : Wells profile) (n : ℕ)
     (e : startOf wells metric code profile buffer .answer ≡ given n) where
@@ -50,15 +41,21 @@ module _ (wells metric code : ℕ) (profile : List ℤ) (buffer : List ℕ) (cod
   startable : Startable wells metric (strainOf code profile)
   startable =
       let s = starts wells metric code profile (length buffer) (begins .verdict) in
-      record { wellsIn = s .wellsIn; metricIn = metric-of metric (s .metricIn); code = s .hasCode; codeFits = codeFits; profile = record { count = s .long; values = values } }
+      record { wellsIn = s .wellsIn; metricIn = metric-is metric (s .metricIn); code = s .hasCode; codeFits = codeFits; profile = record { count = s .long; values = values } }
 
   pub start-accepted : Library (take n (startOf wells metric code profile buffer .buffer))
   unfolding startOf
   start-accepted = rw (begins .front) (started-accepted wells metric (strainOf code profile) startable)
 
-  pub start-strains : strainsOf (take n (startOf wells metric code profile buffer .buffer)) ≡ strainOf code profile ∷ []
-  unfolding startOf started
-  start-strains = rw (begins .front) (strains-written _ (started-writable wells metric (strainOf code profile) startable))
+  -- it says what document 01 says of a start: the one strain, a lone root at level 0
+  pub start-says : contentOf (take n (startOf wells metric code profile buffer .buffer)) ≡ started wells metric (strainOf code profile)
+  unfolding startOf
+  start-says = rw (begins .front) (content-of-bytes _ (started-writable wells metric (strainOf code profile) startable))
+
+  -- bytes behind it are as they were
+  pub start-keeps-rest : drop n (startOf wells metric code profile buffer .buffer) ≡ drop n buffer
+  unfolding startOf
+  start-keeps-rest = begins .behind
 
 -- ---- add: the image it gives is accepted, and holds the old strains and the new one, unaltered
 
@@ -99,6 +96,13 @@ module _ (buffer : List ℕ) (stated code : ℕ) (profile : List ℤ) (b : Bytes
   pub add-accepted : Library (take n (addOf buffer stated code profile .buffer))
   add-accepted = rw new-is (added-accepted old old-bytes add-was-accepted (strainOf code profile) fresh)
 
+  -- the wells and the metric are the old ones
+  pub add-keeps-wells : wellsOf (take n (addOf buffer stated code profile .buffer)) ≡ wellsOf (take stated buffer)
+  add-keeps-wells = ap wellsOf new-is ∙ added-wells old old-bytes add-was-accepted (strainOf code profile) fresh
+
+  pub add-keeps-metric : metricOf (take n (addOf buffer stated code profile .buffer)) ≡ metricOf (take stated buffer)
+  add-keeps-metric = ap metricOf new-is ∙ added-metric old old-bytes add-was-accepted (strainOf code profile) fresh
+
   -- the old list, followed by the new strain
   pub add-keeps-strains : strainsOf (take n (addOf buffer stated code profile .buffer)) ≡ strainsOf (take stated buffer) ++ (strainOf code profile ∷ [])
   add-keeps-strains =
@@ -107,23 +111,12 @@ module _ (buffer : List ℕ) (stated code : ℕ) (profile : List ℤ) (b : Bytes
       ∙ added-strains (contentOf old) (strainOf code profile)
       ∙ ap (λ (ss : List Strain). ss ++ (strainOf code profile ∷ [])) (strains-are old)
 
-  -- old records keep code, profile and parent
-  pub add-keeps-records : (i : ℕ) → i < countOf (take stated buffer)
-      → (strainAt (take n (addOf buffer stated code profile .buffer)) i ≡ strainAt (take stated buffer) i) × (parentAt (take n (addOf buffer stated code profile .buffer)) i ≡ parentAt (take stated buffer) i)
-  add-keeps-records i h =
-      subst (λ (z : List ℕ). (strainAt z i ≡ strainAt old i) × (parentAt z i ≡ parentAt old i)) (sym new-is)
-      (same-fields old old-bytes add-was-accepted (strainOf code profile) fresh i h)
-
-  -- and, but for the root, level
-  pub add-keeps-levels : (i : ℕ) → i < countOf (take stated buffer) → i ≢ rootOf (take stated buffer)
-      → levelAt (take n (addOf buffer stated code profile .buffer)) i ≡ levelAt (take stated buffer) i
-  add-keeps-levels i h ne =
-      subst (λ (z : List ℕ). levelAt z i ≡ levelAt old i) (sym new-is) (same-level old old-bytes add-was-accepted (strainOf code profile) fresh i h ne)
+  -- bytes behind the new image are as they were
+  pub add-keeps-rest : drop n (addOf buffer stated code profile .buffer) ≡ drop n buffer
+  unfolding addOf
+  add-keeps-rest = gives .behind
 
   -- the parent is a nearest node that can take the strain, and of those the one with the lowest code
-  pub add-parent : parentAt new (countOf old) ≡ parentFor (contentOf old) profile
-  add-parent = ap (λ (z : List ℕ). parentAt z (countOf old)) new-is ∙ ap (λ (r : Kept). r .parent) (new-fields old old-bytes add-was-accepted (strainOf code profile) fresh)
-
   pub add-nearest : NearestTaker (distance (metricOf old)) (treeOf old) profile (parentFor (contentOf old) profile)
   add-nearest = chosen old add-was-accepted profile
 
@@ -132,15 +125,11 @@ module _ (buffer : List ℕ) (stated code : ℕ) (profile : List ℤ) (b : Bytes
       → codeAt old (parentFor (contentOf old) profile) ≤ codeAt old u
   add-lowest-code = chosen-code old add-was-accepted profile
 
-  -- the level fits the distance, and the root's becomes the higher of its old one and the new level plus 1
-  pub add-level : levelAt new (countOf old) ≡ fittingLevel (distance (metricOf old) (profileAt old (parentFor (contentOf old) profile)) profile)
-  add-level = ap (λ (z : List ℕ). levelAt z (countOf old)) new-is ∙ ap (λ (r : Kept). r .level) (new-fields old old-bytes add-was-accepted (strainOf code profile) fresh)
-
-  pub add-raises-root : levelAt new (rootOf old) ≡ higher (levelAt old (rootOf old)) (sucℤ (levelAt new (countOf old)))
-  add-raises-root =
-      ap (λ (z : List ℕ). levelAt z (rootOf old)) new-is
-      ∙ root-level old old-bytes add-was-accepted (strainOf code profile) fresh
-      ∙ ap (λ (l : ℤ). higher (levelAt old (rootOf old)) (sucℤ l)) (sym add-level)
+  -- under it the strain is hung in, at the fitting level of its distance, and all else stays but the root's level
+  pub add-grown : Grown (distance (metricOf old)) (treeOf old) (treeOf new) profile (parentFor (contentOf old) profile) (countOf old)
+  add-grown =
+      subst (λ (z : List ℕ). Grown (distance (metricOf old)) (treeOf old) (treeOf z) profile (parentFor (contentOf old) profile) (countOf old)) (sym new-is)
+      (added-grown old old-bytes add-was-accepted (strainOf code profile) fresh)
 
   -- so it never leaves the image as it was
   pub add-changes : take n (addOf buffer stated code profile .buffer) ≢ take stated buffer
@@ -156,9 +145,10 @@ module _ (buffer : List ℕ) (stated code : ℕ) (profile : List ℤ) (b : Bytes
 
 module _ (image buffer : List ℕ) (b : Bytes image) where
   -- an accepted library is never refused where there is room, and its filing form is as long
-  pub file-never-refused : Library image → length image ≤ length buffer → fileOf image buffer .answer ≡ given (length image)
+  pub file-is : Library image → length image ≤ length buffer
+      → fileOf image buffer ≡ record { answer = given (length image); buffer = filingForm image ++ drop (length image) buffer }
   unfolding fileOf outcome
-  file-never-refused l h = rw (file-passes image (length buffer) (sym (accepted-exactly image .1 l)) h) (ap given (file-length image b l))
+  file-is l h = rw (file-passes image (length buffer) (sym (accepted-exactly image .1 l)) h, file-length image b l) refl
 
   module _ (n : ℕ) (e : fileOf image buffer .answer ≡ given n) where
     files : Gave (judge (fileRules image (length buffer))) (filingForm image) buffer n
@@ -178,7 +168,3 @@ module _ (image buffer : List ℕ) (b : Bytes image) where
 
     pub filed-same-strains : (s : Strain) → List·Memᴰ s (strainsOf (take n (fileOf image buffer .buffer))) ↔ List·Memᴰ s (strainsOf image)
     filed-same-strains s = rw (file-gives .0) (file-same-strains image b (file-gives .1) s)
-
-    -- filing what was filed changes nothing
-    pub filed-twice : filingForm (take n (fileOf image buffer .buffer)) ≡ take n (fileOf image buffer .buffer)
-    filed-twice = rw (file-gives .0) (file-twice image b (file-gives .1))

@@ -1,12 +1,12 @@
 -- The rules of start, add and filing, in document 01's order by call. Assumes nothing.
 use mathlib.Core.Bool.{Bool, true, false, not, _&&_}
 use mathlib.Core.List.{List, [], _∷_, _++_}
-use Prim.Native.Nat.{ℕ, suc, _+_, _*_}
+use Prim.Native.Nat.{ℕ, suc}
 use lib.Dec.{ltb, eqb}
 use lib.IntN.{ℤ}
 use lib.ListN.{length, take}
 use Rattle.profile.specs.Distance.{gap}
-use Rattle.image.specs.Fields.{wellsOf, countOf, codeAt, profileAt}
+use Rattle.image.specs.Fields.{wellsOf, countOf, codeAt, profileAt, sizeOf}
 use Rattle.image.specs.Verdict.{Rule, rule, when, atFirst}
 use Rattle.checker.specs.Tests.{outside}
 use Rattle.checker.specs.Check.{checkRules}
@@ -24,10 +24,6 @@ codeTaken xs code i = eqb (codeAt xs i) code
 
 unfoldable pub profileHeld : List ℕ → List ℤ → ℕ → Bool
 profileHeld xs profile i = alike (profileAt xs i) profile
-
--- how long a library of so many strains and wells is
-abbrev pub sizeOf : (wells count : ℕ) → ℕ
-sizeOf wells count = 16 + 8 * count + 2 * (wells * count)
 
 -- Start: 3, 4, 17, 18, 16. `room` is the buffer's length
 unfoldable pub startRules : (wells metric code : ℕ) → List ℤ → (room : ℕ) → List Rule

@@ -5,10 +5,9 @@ use mathlib.Core.List.{List, [], _∷_, _++_}
 use Prim.Native.Nat.{ℕ, suc, _<_}
 use lib.IntN.{ℤ}
 use lib.ListN.{length, take}
-use Rattle.image.specs.Fields.{wellsOf, countOf, codeAt, profileAt}
+use Rattle.image.specs.Fields.{wellsOf, countOf, codeAt, profileAt, sizeOf}
 use Rattle.image.specs.Faults.{Line, line, Whole, AtRecord}
 use Rattle.checker.specs.Table.{Outside, table}
-use Rattle.build.specs.Rules.{sizeOf}
 
 -- Start: 3, 4, 17, 18, 16. `room` is the buffer's length
 unfoldable pub startTable : (wells metric code : ℕ) → List ℤ → (room : ℕ) → List Line

@@ -5,9 +5,9 @@ ghost use lib.ListN.{length, take};
 ghost use Rattle.image.specs.Library.{Library};
 ghost use Rattle.image.specs.Verdict.{judge};
 ghost use Rattle.image.specs.Answer.{outcome};
+ghost use Rattle.adding.specs.ImageWith.{imageWith};
 ghost use Rattle.build.specs.Answer.{handed};
 ghost use Rattle.build.specs.Rules.{strainRules};
-ghost use Rattle.build.specs.Calls.{imageWith};
 use crate::Built;
 use crate::offer::Offer;
 
@@ -18,6 +18,6 @@ pub fn admit(buffer: &mut [u8], stated: usize, code: u32, profile: &[i16]) -> Bu
 {
     match crate::offer::consider(&buffer[..stated], code, profile) {
         Offer::Refused(refusal) => Built::Refused(refusal),
-        Offer::At(seat) => crate::grow::settle(buffer, stated, code, profile, seat),
+        Offer::At(seat) => crate::settle::settle(buffer, stated, code, profile, seat),
     }
 }

@@ -1,20 +1,13 @@
 // Growing a library: start, add, filing. Each answers with the length of the image that now stands in the buffer, or with a refusal, and then
 // nothing was written.
-ghost use mathlib.Core.Path.{_≡_};
-ghost use Rattle.build.specs.Answer.{handed};
-ghost use Rattle.build.specs.Calls.{startOf, addOf, fileOf};
+ghost use Rattle.build.specs.Calls.{StartGives, AddGives, FileGives};
 use checker::Checked;
 use image::refusal::Place;
 use image::refusal::Refusal;
 
 mod admit; // admit.rt: a strain for an accepted library
-mod begin; // begin.rt: a library begun with its root
-mod filing; // filing.rt: strains filed in order of code
-mod grow; // grow.rt: one strain more
-mod hang; // hang.rt: a strain hung into the tree
-mod near; // near.rt: the next record that is near enough
 mod offer; // offer.rt: rules 17 to 19
-mod seat; // seat.rt: the record that takes a new strain
+mod settle; // settle.rt: rules 20 and 16
 
 pub enum Built {
     Length(usize),
@@ -23,7 +16,7 @@ pub enum Built {
 
 // Starts a library with one strain, in front of the buffer.
 pub fn start(wells: u32, metric: u32, code: u32, profile: &[i16], buffer: &mut [u8]) -> Built
-    ensures { λ r. ⌜ handed r (now (buffer .exit)) ≡ startOf wells metric code (now (profile .entry)) (now (buffer .entry)) ⌝ }
+    ensures { λ r. ⌜ StartGives wells metric code (now (profile .entry)) (now (buffer .entry)) r (now (buffer .exit)) ⌝ }
 {
     if checker::range::outside(1, 16, wells as usize) {
         return Built::Refused(Refusal::Wells(Place::None));
@@ -41,13 +34,13 @@ pub fn start(wells: u32, metric: u32, code: u32, profile: &[i16], buffer: &mut [
     if buffer.len() < size {
         return Built::Refused(Refusal::Room(Place::None));
     }
-    begin::begin(buffer, wells as usize, metric as u8, 1, code, profile);
+    adding::begin::begin(buffer, wells as usize, metric as u8, 1, code, profile);
     Built::Length(size)
 }
 
 // Adds a strain to the library that is the first `stated` bytes of the buffer.
 pub fn add(buffer: &mut [u8], stated: usize, code: u32, profile: &[i16]) -> Built
-    ensures { λ r. ⌜ handed r (now (buffer .exit)) ≡ addOf (now (buffer .entry)) stated code (now (profile .entry)) ⌝ }
+    ensures { λ r. ⌜ AddGives (now (buffer .entry)) stated code (now (profile .entry)) r (now (buffer .exit)) ⌝ }
 {
     if buffer.len() < stated {
         return Built::Refused(Refusal::Size(Place::None));
@@ -60,7 +53,7 @@ pub fn add(buffer: &mut [u8], stated: usize, code: u32, profile: &[i16]) -> Buil
 
 // Files a library into the buffer: its strains, added in ascending order of code.
 pub fn file(image: &[u8], buffer: &mut [u8]) -> Built
-    ensures { λ r. ⌜ handed r (now (buffer .exit)) ≡ fileOf (now (image .entry)) (now (buffer .entry)) ⌝ }
+    ensures { λ r. ⌜ FileGives (now (image .entry)) (now (buffer .entry)) r (now (buffer .exit)) ⌝ }
 {
     match checker::check(image) {
         Checked::Refused(refusal) => Built::Refused(refusal),
@@ -68,7 +61,7 @@ pub fn file(image: &[u8], buffer: &mut [u8]) -> Built
             if buffer.len() < image.len() {
                 return Built::Refused(Refusal::Room(Place::None));
             }
-            filing::fill(image, buffer);
+            adding::filing::fill(image, buffer);
             Built::Length(image.len())
         }
     }

@@ -6,7 +6,7 @@ ghost use Rattle.image.specs.First.{firstBelow};
 ghost use Rattle.image.specs.Library.{Library};
 ghost use Rattle.build.specs.Rules.{codeTaken};
 ghost use Rattle.build.specs.Steps.{offered};
-use crate::seat::Seat;
+use adding::seat::Seat;
 use image::refusal::Place;
 use image::refusal::Refusal;
 
@@ -48,12 +48,11 @@ pub fn consider(image: &[u8], code: u32, profile: &[i16]) -> Offer
     if taken < count {
         return Offer::Refused(Refusal::NewCode(Place::Record(taken)));
     }
-    let seat = crate::seat::find(
+    let seat = adding::seat::find(
         image,
         image::header::metric(image),
         wells,
         count,
-        image::header::root(image),
         count,
         profile,
     );

@@ -41,7 +41,8 @@ any-two n P all turn p q hp hq ne = by (ltb p q) refl
     by true e = turn q p (all q p hq (ltb-true p q e))
     by false e = all p q hp (omega (arith, ltb-false p q e, ne))
 
-metric-is : (m : ℕ) → (1 ≤ m) × (m ≤ 2) → (m ≡ 1) ⊎ (m ≡ 2)
+-- a metric's number
+pub metric-is : (m : ℕ) → (1 ≤ m) × (m ≤ 2) → (m ≡ 1) ⊎ (m ≡ 2)
 metric-is m h = by (ℕ-discrete m 1)
   where
     by : Dec (m ≡ 1) → (m ≡ 1) ⊎ (m ≡ 2)

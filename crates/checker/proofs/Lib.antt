@@ -6,4 +6,3 @@ pub mod Table
 pub mod Passes
 pub mod Accepted
 pub mod Answers
-pub mod Examples

@@ -1,5 +1,5 @@
 -- What the rules that were passed promise. Assumes nothing.
-use mathlib.Core.Path.{_≡_, refl, subst}
+use mathlib.Core.Path.{_≡_, refl}
 use mathlib.Core.Bool.{Bool, true, false, _||_, true≢false}
 use mathlib.Core.List.{List}
 use mathlib.Core.Logic.{_≢_}
@@ -64,8 +64,8 @@ noded-of {xs} {count = count} laid e l =
     record { laid = laid; parentIn = λ k h. rw (laid .isCount) (good k h .parent); levelIn = λ k h. good k h .level }
 
 -- a metric or a width may be written out
-pub at-metric : {xs : List ℕ} {metric m wells count : ℕ} → metric ≡ m → Noded xs metric wells count → Noded xs m wells count
-at-metric {xs} {wells = wells} {count = count} e n = subst (λ (x : ℕ). Noded xs x wells count) e n
+pub at-metric : {xs : List ℕ} {metric m wells count later : ℕ} → Noded xs metric wells count × (later < count) → metric ≡ m → Noded xs m wells count × (later < count)
+at-metric n e = (rw (← e) (n .0), n .1)
 
-pub at-width : {xs : List ℕ} {metric wells w count : ℕ} → wells ≡ w → Noded xs metric wells count → Noded xs metric w count
-at-width {xs} {metric} {count = count} e n = subst (λ (x : ℕ). Noded xs metric x count) e n
+pub at-width : {xs : List ℕ} {metric wells w count later : ℕ} → Noded xs metric wells count × (later < count) → wells ≡ w → Noded xs metric w count × (later < count)
+at-width n e = (rw (← e) (n .0), n .1)

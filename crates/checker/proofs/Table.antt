@@ -1,4 +1,4 @@
--- The check's tests tell what the table's lines say, so the check's verdict is the table's. Assumes nothing.
+-- The check's tests tell what the table's lines say. Assumes nothing.
 use mathlib.Core.Path.{_≡_, sym, subst}
 use mathlib.Core.Logic.{_≢_}
 use mathlib.Core.Bool.{not}
@@ -13,14 +13,11 @@ use lib.Signed.{leZ, _<ℤ_}
 use Rattle.profile.specs.Level.{_>2^_, _≤2^_, lower, coverLimit}
 use Rattle.profile.proofs.Levels.{more-than, at-most}
 use Rattle.profile.proofs.Signs.{le-no, le-parts, lt-parts, parts-lt}
-use Rattle.image.specs.declared.refusal.Place.{Place}
 use Rattle.image.specs.Fields.{editionOf, wellsOf, metricOf, countOf, rootOf, codeAt, parentAt, levelByteAt, levelAt, spareAt, distanceAt}
-use Rattle.image.specs.Verdict.{accepted, refused}
-use Rattle.image.specs.Faults.{FirstFault, NoFault}
 use Rattle.image.proofs.Tests.{Tells, tells-not, tells-or, tells-and, tells-lt, tells-le, tells-eq}
-use Rattle.image.proofs.Faults.{Match, end, next, finds-whole, finds-first, finds-pair, verdict-first, first-verdict, verdict-none, none-verdict}
+use Rattle.image.proofs.Faults.{Match, end, next, finds-whole, finds-first, finds-pair}
 use Rattle.checker.specs.Tests.{outside, badNode, badLevel, badCover, sameCode, tooNear}
-use Rattle.checker.specs.Check.{treeRules, recordRules, layoutRules, headerRules, checkRules, checkOf}
+use Rattle.checker.specs.Check.{treeRules, recordRules, layoutRules, headerRules, checkRules}
 use Rattle.checker.specs.Table.{Outside, NodeFault, LevelFault, CoverFault, SeparationFault, table}
 
 pub tells-outside : (lo hi x : ℕ) → Tells (outside lo hi x) (Outside lo hi x)
@@ -77,6 +74,7 @@ pub tells-code : (xs : List ℕ) (later earlier : ℕ) → Tells (sameCode xs la
 unfolding sameCode
 tells-code xs later earlier = tells-eq (codeAt xs later) (codeAt xs earlier)
 
+-- each rule of the check finds what its line of the table says
 pub check-table : (xs : List ℕ) → Match (checkRules xs) (table xs)
 unfolding checkRules headerRules layoutRules recordRules treeRules table
 check-table xs =
@@ -93,13 +91,3 @@ check-table xs =
     (next (finds-first (tells-level xs) (countOf xs))
     (next (finds-first (tells-cover xs) (countOf xs))
     (next (finds-pair (tells-near xs) (countOf xs)) end))))))))))))
-
--- the check refuses with a number at a place exactly when that line of the table applies there and no line before it applies
-pub first-fault : (xs : List ℕ) (m : ℕ) (p : Place) → (checkOf xs ≡ refused m p → FirstFault (table xs) m p) × (FirstFault (table xs) m p → checkOf xs ≡ refused m p)
-unfolding checkOf
-first-fault xs m p = (verdict-first (check-table xs) m p, first-verdict (check-table xs))
-
--- and accepts exactly when none applies
-pub no-fault : (xs : List ℕ) → (checkOf xs ≡ accepted → NoFault (table xs)) × (NoFault (table xs) → checkOf xs ≡ accepted)
-unfolding checkOf
-no-fault xs = (verdict-none (check-table xs), none-verdict (check-table xs))

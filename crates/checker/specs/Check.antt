@@ -1,4 +1,5 @@
 -- The check: the rules of document 01's table on a library's bytes, in order. Assumes nothing.
+use mathlib.Core.Path.{_≡_}
 use mathlib.Core.List.{List, [], _∷_}
 use Prim.Native.Nat.{ℕ}
 use Rattle.image.specs.Fields.{countOf}
@@ -51,3 +52,7 @@ checkOf xs = judge (checkRules xs)
 abbrev pub answerOf : Checked → Verdict
 answerOf Accepted = accepted
 answerOf (Refused r) = refused (numberOf r) (placeOf r)
+
+-- the contract: the answer is the verdict
+abbrev pub CheckGives : (image : List ℕ) → Checked → Type 0
+CheckGives image r = answerOf r ≡ checkOf image

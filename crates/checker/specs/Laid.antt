@@ -1,9 +1,9 @@
 -- What the rules that were passed promise to those that follow. Assumes nothing.
 use mathlib.Core.Path.{_≡_}
 use mathlib.Core.List.{List}
-use Prim.Native.Nat.{ℕ, _+_, _*_, _≤_, _<_}
+use Prim.Native.Nat.{ℕ, _≤_, _<_}
 use lib.ListN.{length}
-use Rattle.image.specs.Fields.{wellsOf, metricOf, countOf, rootOf, parentAt, levelByteAt}
+use Rattle.image.specs.Fields.{wellsOf, metricOf, countOf, rootOf, parentAt, levelByteAt, sizeOf}
 
 -- past rule 8: a library of so many strains, of so many wells, under that metric
 pub record Laid (xs : List ℕ) (metric wells count : ℕ) : Type 0 where
@@ -15,7 +15,7 @@ pub record Laid (xs : List ℕ) (metric wells count : ℕ) : Type 0 where
   pub wellsHigh : wells ≤ 16
   pub countHigh : count ≤ 1024
   pub rootIn : rootOf xs < count
-  pub size : length xs ≡ 16 + 8 * count + 2 * (wells * count)
+  pub size : length xs ≡ sizeOf wells count
 
 -- past rule 9 too
 pub record Noded (xs : List ℕ) (metric wells count : ℕ) : Type 0 where

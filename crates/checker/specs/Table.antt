@@ -7,7 +7,7 @@ use lib.IntN.{sucℤ}
 use lib.ListN.{length}
 use lib.Signed.{_<ℤ_}
 use Rattle.profile.specs.Level.{_>2^_, _≤2^_, lower}
-use Rattle.image.specs.Fields.{editionOf, wellsOf, metricOf, countOf, rootOf, profilesOffsetOf, nodesOffsetOf, codeAt, parentAt, levelByteAt, levelAt, spareAt, distanceAt}
+use Rattle.image.specs.Fields.{editionOf, wellsOf, metricOf, countOf, rootOf, profilesOffsetOf, nodesOffsetOf, codeAt, parentAt, levelByteAt, levelAt, spareAt, sizeOf, distanceAt}
 use Rattle.image.specs.Faults.{Line, line, Whole, AtRecord, AtPair}
 
 abbrev pub Outside : ℕ → ℕ → ℕ → Type 0
@@ -37,7 +37,7 @@ table xs =
     ∷ line 4 (Whole (Outside 1 2 (metricOf xs)))
     ∷ line 5 (Whole (Outside 1 1024 (countOf xs)))
     ∷ line 6 (Whole ((profilesOffsetOf xs ≢ 16 + 8 * countOf xs) ⊎ (nodesOffsetOf xs ≢ 16)))
-    ∷ line 7 (Whole (length xs ≢ 16 + 8 * countOf xs + 2 * (wellsOf xs * countOf xs)))
+    ∷ line 7 (Whole (length xs ≢ sizeOf (wellsOf xs) (countOf xs)))
     ∷ line 8 (Whole (countOf xs ≤ rootOf xs))
     ∷ line 9 (AtRecord (countOf xs) (NodeFault xs))
     ∷ line 10 (AtPair (countOf xs) (λ later earlier. codeAt xs later ≡ codeAt xs earlier))

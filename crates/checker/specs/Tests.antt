@@ -6,7 +6,7 @@ use lib.Dec.{ltb, leb, eqb}
 use lib.ListN.{length}
 use lib.Signed.{leZ}
 use Rattle.profile.specs.Level.{lower, coverLimit}
-use Rattle.image.specs.Fields.{editionOf, wellsOf, metricOf, countOf, rootOf, profilesOffsetOf, nodesOffsetOf, codeAt, parentAt, levelByteAt, levelAt, spareAt, distanceAt}
+use Rattle.image.specs.Fields.{editionOf, wellsOf, metricOf, countOf, rootOf, profilesOffsetOf, nodesOffsetOf, codeAt, parentAt, levelByteAt, levelAt, spareAt, sizeOf, distanceAt}
 
 -- x is not one of lo to hi
 abbrev pub outside : ℕ → ℕ → ℕ → Bool
@@ -32,7 +32,7 @@ abbrev pub badOffsets : List ℕ → Bool
 badOffsets xs = not (eqb (profilesOffsetOf xs) (16 + 8 * countOf xs)) || not (eqb (nodesOffsetOf xs) 16)
 
 abbrev pub badLength : List ℕ → Bool
-badLength xs = not (eqb (length xs) (16 + 8 * countOf xs + 2 * (wellsOf xs * countOf xs)))
+badLength xs = not (eqb (length xs) (sizeOf (wellsOf xs) (countOf xs)))
 
 abbrev pub badRoot : List ℕ → Bool
 badRoot xs = leb (countOf xs) (rootOf xs)

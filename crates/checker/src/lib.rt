@@ -1,6 +1,5 @@
 // The check of a library: is it laid out as it should be, and does its tree satisfy the published definition?
-ghost use mathlib.Core.Path.{_≡_};
-ghost use Rattle.checker.specs.Check.{checkOf, answerOf};
+ghost use Rattle.checker.specs.Check.{CheckGives};
 use image::refusal::Place;
 use image::refusal::Refusal;
 
@@ -21,7 +20,7 @@ pub enum Checked {
 
 // Accepts a library, or refuses it by the first rule that applies, each tried over all records before the next.
 pub fn check(image: &[u8]) -> Checked
-    ensures { λ r. ⌜ answerOf r ≡ checkOf (now (image .entry)) ⌝ }
+    ensures { λ r. ⌜ CheckGives (now (image .entry)) r ⌝ }
 {
     if range::outside(16, 40976, image.len()) {
         return Checked::Refused(Refusal::Size(Place::None));

@@ -27,8 +27,8 @@ use Rattle.image.proofs.Tests.{told-true, tells-le}
 use Rattle.content.specs.Content.{Kept, Content, nth, recordAt, contentOf}
 use Rattle.content.specs.Bytes.{bytesOf, Bytes, Roomy, Writable}
 use Rattle.content.specs.Adding.{distanceTo, nearEnough, parentFor, levelFor, raised, added}
-use Rattle.content.proofs.Bytes.{bytes-framed, content-writable}
-use Rattle.content.proofs.Written.{content-count, content-nth, count-written, record-written, wells-written, metric-written, root-written}
+use Rattle.content.proofs.Records.{content-count, content-nth}
+use Rattle.content.proofs.Bytes.{header-is, record-written, bytes-framed, content-writable}
 use Rattle.content.proofs.Taker.{Taker, tells-nearer, taker-is, as-far}
 use Rattle.content.proofs.Levels.{Storable, fitting-storable, raised-storable, storable-byte}
 use Rattle.content.proofs.Added.{added-length, added-old, added-root, added-new}
@@ -98,6 +98,14 @@ module _ (xs : List ℕ) (l : Library xs) (x : List ℤ) where
       go (no f) =
           absurd (tells-nearer (metricOf xs) x _ _ .no (taker .first u (can-of u h))
           (inr (as-near, omega (arith, lt-of-not-le f, code-is u (h .node), code-is v parent-in))))
+
+  -- document 01's sentence names that record, and no other
+  pub one-taker : (u : ℕ) → NearestTaker (distance (metricOf xs)) (treeOf xs) x u
+      → ((w : ℕ) → NearestTaker (distance (metricOf xs)) (treeOf xs) x w → codeAt xs u ≤ codeAt xs w)
+      → u ≡ parentFor (contentOf xs) x
+  one-taker u t lowest =
+      let as-near : distance (metricOf xs) (profileAt xs u) x ≡ distance (metricOf xs) (profileAt xs v) x = omega (arith, t .nearest v (chosen .taker), chosen .nearest u (t .taker)) in
+      l .layout .codes u v (t .taker .node) parent-in (omega (arith, lowest v chosen, chosen-code u (t .taker) as-near))
 
 -- ---- the new library
 
@@ -206,19 +214,19 @@ module _ (xs : List ℕ) (b : Bytes xs) (l : Library xs) (s : Strain) (f : Fresh
   ys = bytesOf c′
 
   count-new : countOf ys ≡ suc n
-  count-new = count-written c′ added-writable ∙ count-is
+  count-new = header-is c′ added-writable .count ∙ count-is
 
-  wells-new : wellsOf ys ≡ wellsOf xs
+  pub added-wells : wellsOf (bytesOf (added (contentOf xs) s)) ≡ wellsOf xs
   unfolding added contentOf
-  wells-new = wells-written c′ added-writable
+  added-wells = header-is c′ added-writable .wells
 
-  metric-new : metricOf ys ≡ metricOf xs
+  pub added-metric : metricOf (bytesOf (added (contentOf xs) s)) ≡ metricOf xs
   unfolding added contentOf
-  metric-new = metric-written c′ added-writable
+  added-metric = header-is c′ added-writable .metric
 
   root-new : rootOf ys ≡ rootOf xs
   unfolding added contentOf
-  root-new = root-written c′ added-writable
+  root-new = header-is c′ added-writable .root
 
   record-new : (i : ℕ) → i < suc n → recordAt ys i ≡ nth (c′ .records) i
   record-new i h = record-written c′ added-writable i (rw count-is h)
@@ -228,18 +236,18 @@ module _ (xs : List ℕ) (b : Bytes xs) (l : Library xs) (s : Strain) (f : Fresh
       → P n (record { strain = s; parent = p; level = fittingLevel d }) → (i : ℕ) → i < countOf ys → P i (recordAt ys i)
   by-field P old top new i h = rw (record-new i (rw count-new at h)) (by-record P old top new i (rw count-new at h))
 
-  pub new-fields : recordAt ys n ≡ record { strain = s; parent = p; level = fittingLevel d }
+  new-fields : recordAt ys n ≡ record { strain = s; parent = p; level = fittingLevel d }
   new-fields = record-new n (omega arith) ∙ new-is
 
-  pub same-level : (i : ℕ) → i < n → i ≢ rootOf xs → levelAt ys i ≡ levelAt xs i
+  same-level : (i : ℕ) → i < n → i ≢ rootOf xs → levelAt ys i ≡ levelAt xs i
   same-level i h ne = ap (λ (r : Kept). r .level) (record-new i (omega arith) ∙ old-is i h ne)
 
-  pub root-level : levelAt ys (rootOf xs) ≡ higher (levelAt xs (rootOf xs)) (sucℤ (fittingLevel d))
+  root-level : levelAt ys (rootOf xs) ≡ higher (levelAt xs (rootOf xs)) (sucℤ (fittingLevel d))
   unfolding raised
   root-level = ap (λ (r : Kept). r .level) (record-new (rootOf xs) (omega (arith, l .layout .root)) ∙ top-is)
 
   -- the old records keep their strain and their parent, the root too
-  pub same-fields : (i : ℕ) → i < n → (strainAt ys i ≡ strainAt xs i) × (parentAt ys i ≡ parentAt xs i)
+  same-fields : (i : ℕ) → i < n → (strainAt ys i ≡ strainAt xs i) × (parentAt ys i ≡ parentAt xs i)
   unfolding raised
   same-fields i h = go (ℕ-discrete i (rootOf xs))
     where
@@ -278,8 +286,8 @@ module _ (xs : List ℕ) (b : Bytes xs) (l : Library xs) (s : Strain) (f : Fresh
       let frame = bytes-framed c′ added-writable in
       record {
         edition = frame .edition;
-        wells = rw wells-new (l .layout .wells);
-        metric = rw metric-new (l .layout .metric);
+        wells = rw added-wells (l .layout .wells);
+        metric = rw added-metric (l .layout .metric);
         count = rw count-new (omega arith, omega (arith, f .room));
         profilesOffset = frame .profilesOffset;
         nodesOffset = frame .nodesOffset;
@@ -297,12 +305,11 @@ module _ (xs : List ℕ) (b : Bytes xs) (l : Library xs) (s : Strain) (f : Fresh
         spare = frame .spare;
       }
 
-  grown : Grown (distance (metricOf xs)) (treeOf xs) (treeOf ys) (s .profile) p n
-  grown = record {
-    isNew = λ h. omega arith;
+  -- its tree is the old one with the strain hung in as document 01 says
+  pub added-grown : Grown (distance (metricOf xs)) (treeOf xs) (treeOf (bytesOf (added (contentOf xs) s))) (s .profile) (parentFor (contentOf xs) (s .profile)) (countOf xs)
+  added-grown = record {
     nodes = λ q h. either q (ℕ-discrete q n) (rw count-new at h);
     olds = λ q h. rw count-new (omega arith);
-    new = rw count-new (omega arith);
     root = root-new;
     profile = λ q h. ap (λ (z : Strain). z .profile) (same-fields q h .0);
     newProfile = ap (λ (r : Kept). r .strain .profile) new-fields;
@@ -321,5 +328,5 @@ module _ (xs : List ℕ) (b : Bytes xs) (l : Library xs) (s : Strain) (f : Fresh
   pub added-accepted : Library (bytesOf (added (contentOf xs) s))
   added-accepted = record {
     layout = new-layout;
-    tree = rw metric-new (grown-tree (library-metric l .symmetric) (l .tree) grown (chosen xs l (s .profile)) away (countOf ys) (λ q h. h));
+    tree = rw added-metric (grown-tree (library-metric l .symmetric) (l .tree) added-grown (chosen xs l (s .profile)) away (countOf ys) (λ q h. h));
   }

@@ -11,16 +11,17 @@ use lib.Seq.{ext-getD}
 use Rattle.profile.specs.Bytes.{wellAt, wellsAt}
 use Rattle.profile.specs.Distance.{Wells, none, well}
 use Rattle.profile.proofs.Reading.{wells-length}
-use Rattle.image.specs.Fields.{wellsOf, metricOf, countOf, rootOf, levelByteAt, profileAt, profileStart}
+use Rattle.image.specs.Fields.{wellsOf, metricOf, countOf, rootOf, levelByteAt, profileAt, profileStart, sizeOf}
 use Rattle.image.specs.Numbers.{u16At, u32At}
 use Rattle.image.specs.Strains.{each}
 use Rattle.image.proofs.Strains.{each-at}
 use Rattle.content.specs.Content.{Kept, Content, noRecord, nth, recordAt, recordsOf, contentOf}
 use Rattle.content.specs.Bytes.{bytes16, bytes32, wordOf, levelByteOf, headerBytes, nodeBytes, profileBytes, bytesOf, Bytes, Roomy, Writable, Framed}
-use Rattle.content.proofs.Records.{records-length, record-is}
+use Rattle.content.specs.Headed.{Headed}
+use Rattle.content.proofs.Records.{records-length, record-is, content-count, content-nth}
 use Rattle.content.proofs.Blocks.{blocks-length, block-at, place-of, first-at, second-at, third-at, bytes-none, bytes-more, bytes-append, bytes-blocks}
 use Rattle.content.proofs.Numbers.{halves-16, halves-32, written-16, written-32, word-in-16, word-signed, signed-fits, level-byte-low, byte-of-level, level-spans}
-use Rattle.content.proofs.Same.{node-reads, NodeWritten, node-written, HeaderWritten, header-written, profile-written}
+use Rattle.content.proofs.Same.{node-reads, NodeWritten, node-written, header-written, profile-written}
 
 -- ---- lengths
 
@@ -97,7 +98,7 @@ module _ (c : Content) (W : Writable c) where
   profiles-length : length (profilesOf c) ≡ 2 * (c .wells * length (c .records))
   profiles-length = omega (arith, blocks-length noRecord profileOf (2 * c .wells) (c .records) profile-lengths)
 
-  pub bytes-length : length (bytesOf c) ≡ 16 + 8 * length (c .records) + 2 * (c .wells * length (c .records))
+  pub bytes-length : length (bytesOf c) ≡ sizeOf (c .wells) (length (c .records))
   unfolding bytesOf
   bytes-length =
       omega (arith, length-append (headerOf c ++ nodesOf c) (profilesOf c), length-append (headerOf c) (nodesOf c), sixteen, nodes-length, profiles-length)
@@ -132,7 +133,7 @@ module _ (c : Content) (W : Writable c) where
 
   -- ---- what the bytes of a content say
 
-  pub header-is : HeaderWritten (bytesOf c) (c .wells) (c .metric) (length (c .records)) (c .root)
+  pub header-is : Headed (bytesOf c) (c .wells) (c .metric) (length (c .records)) (c .root)
   header-is = header-written (bytesOf c) (c .wells) (c .metric) (length (c .records)) (c .root) header-at
 
   pub node-is : (i : ℕ) → i < length (c .records) → NodeWritten (bytesOf c) i (nth (c .records) i)
@@ -145,8 +146,8 @@ module _ (c : Content) (W : Writable c) where
       (profile-written (bytesOf c) (profileStart (length (c .records)) (c .wells) i) (c .wells) (nth (c .records) i .strain .profile)
       (W .each i h .profile) (λ j k. profile-at i j h k))
 
-  kept-is : (i : ℕ) → i < length (c .records) → recordAt (bytesOf c) i ≡ nth (c .records) i
-  kept-is i h = λ t. record {
+  pub record-written : (i : ℕ) → i < length (c .records) → recordAt (bytesOf c) i ≡ nth (c .records) i
+  record-written i h = λ t. record {
     strain = record { code = node-is i h .code t; profile = profile-is i h t };
     parent = node-is i h .parent t;
     level = node-is i h .level t;
@@ -159,7 +160,7 @@ module _ (c : Content) (W : Writable c) where
       (λ i h. within i (omega (arith, records-length (bytesOf c) (length (c .records))))))
     where
       within : (i : ℕ) → i < length (c .records) → nth (recordsOf (bytesOf c) (length (c .records))) i ≡ nth (c .records) i
-      within i h = record-is (bytesOf c) (length (c .records)) i h ∙ kept-is i h
+      within i h = record-is (bytesOf c) (length (c .records)) i h ∙ record-written i h
 
   pub content-of-bytes : contentOf (bytesOf c) ≡ c
   unfolding contentOf
@@ -203,9 +204,9 @@ module _ (xs : List ℕ) (B : Bytes xs) where
   content-writable = record {
     wells = B .low 2;
     metric = B .low 3;
-    count = omega (arith, records-length xs (countOf xs), u16-low 4);
+    count = omega (arith, content-count xs, u16-low 4);
     root = u16-low 6;
-    each = λ i h. rw (record-is xs (countOf xs) i (omega (arith, records-length xs (countOf xs)))) (record-roomy i);
+    each = λ i h. rw (content-nth xs i (omega (arith, content-count xs))) (record-roomy i);
   }
 
   -- numbers that were read are written back
@@ -248,15 +249,11 @@ module _ (xs : List ℕ) (B : Bytes xs) where
         ++ (ap bytes16 (n .parent) ∙ written-16 (f 4) (f 5) (low 4) (low 5)) t
         ++ ((byte-of-level (levelByteAt xs i) ∙ n .levelByte) t ∷ (sym (F .spare i h) ∙ n .spare) t ∷ [])
 
-    count-is : length (contentOf xs .records) ≡ countOf xs
-    unfolding contentOf
-    count-is = records-length xs (countOf xs)
-
     header-agrees : (j : ℕ) → j < 16 → getD (bytesOf (contentOf xs)) j 0 ≡ getD xs j 0
     unfolding contentOf
     header-agrees j h =
         header-at (contentOf xs) content-writable j h
-        ∙ ap (λ (n : ℕ). getD (headerBytes (wellsOf xs) (metricOf xs) n (rootOf xs)) j 0) count-is
+        ∙ ap (λ (n : ℕ). getD (headerBytes (wellsOf xs) (metricOf xs) n (rootOf xs)) j 0) (content-count xs)
         ∙ ap (λ (l : List ℕ). getD l j 0) header-back
         ∙ each-at (λ j. getD xs j 0) 0 16 j 0 h
         ∙ ap (λ (k : ℕ). getD xs k 0) (omega arith)
@@ -264,8 +261,8 @@ module _ (xs : List ℕ) (B : Bytes xs) where
     node-agrees : (i j : ℕ) → i < countOf xs → j < 8 → getD (bytesOf (contentOf xs)) (16 + 8 * i + j) 0 ≡ getD xs (16 + 8 * i + j) 0
     unfolding contentOf
     node-agrees i j h k =
-        node-at (contentOf xs) content-writable i j (omega (arith, count-is)) k
-        ∙ ap (λ (r : Kept). getD (nodeBytes r) j 0) (record-is xs (countOf xs) i h)
+        node-at (contentOf xs) content-writable i j (omega (arith, content-count xs)) k
+        ∙ ap (λ (r : Kept). getD (nodeBytes r) j 0) (content-nth xs i h)
         ∙ ap (λ (l : List ℕ). getD l j 0) (node-back i h)
         ∙ each-at (λ j. getD xs (16 + 8 * i + j) 0) 0 8 j 0 k
         ∙ ap (λ (m : ℕ). getD xs (16 + 8 * i + m) 0) (omega arith)
@@ -274,12 +271,12 @@ module _ (xs : List ℕ) (B : Bytes xs) where
         → getD (bytesOf (contentOf xs)) (profileStart (countOf xs) (wellsOf xs) i + j) 0 ≡ getD xs (profileStart (countOf xs) (wellsOf xs) i + j) 0
     unfolding contentOf profileAt
     profile-agrees i j h k =
-        ap (λ (n : ℕ). getD (bytesOf (contentOf xs)) (profileStart n (wellsOf xs) i + j) 0) (sym count-is)
-        ∙ profile-at (contentOf xs) content-writable i j (omega (arith, count-is)) k
-        ∙ ap (λ (r : Kept). getD (profileBytes (r .strain .profile)) j 0) (record-is xs (countOf xs) i h)
+        ap (λ (n : ℕ). getD (bytesOf (contentOf xs)) (profileStart n (wellsOf xs) i + j) 0) (sym (content-count xs))
+        ∙ profile-at (contentOf xs) content-writable i j (omega (arith, content-count xs)) k
+        ∙ ap (λ (r : Kept). getD (profileBytes (r .strain .profile)) j 0) (content-nth xs i h)
         ∙ profile-back (profileStart (countOf xs) (wellsOf xs) i) (wellsOf xs) j k
 
-    agree : (k : ℕ) → k < 16 + 8 * countOf xs + 2 * (wellsOf xs * countOf xs) → getD (bytesOf (contentOf xs)) k 0 ≡ getD xs k 0
+    agree : (k : ℕ) → k < sizeOf (wellsOf xs) (countOf xs) → getD (bytesOf (contentOf xs)) k 0 ≡ getD xs k 0
     agree k h = go (decLt k 16) (decLt k (16 + 8 * countOf xs))
       where
         go : Dec (k < 16) → Dec (k < 16 + 8 * countOf xs) → getD (bytesOf (contentOf xs)) k 0 ≡ getD xs k 0
@@ -293,9 +290,9 @@ module _ (xs : List ℕ) (B : Bytes xs) where
             let e : k ≡ profileStart (countOf xs) (wellsOf xs) (p .block) + p .place = omega (arith, p .at) in
             rw e (profile-agrees (p .block) (p .place) (p .block-in) (p .place-in))
 
-    size-is : length (bytesOf (contentOf xs)) ≡ 16 + 8 * countOf xs + 2 * (wellsOf xs * countOf xs)
+    size-is : length (bytesOf (contentOf xs)) ≡ sizeOf (wellsOf xs) (countOf xs)
     unfolding contentOf
-    size-is = bytes-length (contentOf xs) content-writable ∙ ap (λ (n : ℕ). 16 + 8 * n + 2 * (wellsOf xs * n)) count-is
+    size-is = bytes-length (contentOf xs) content-writable ∙ ap (sizeOf (wellsOf xs)) (content-count xs)
 
     pub bytes-of-content : bytesOf (contentOf xs) ≡ xs
     bytes-of-content = ext-getD 0 (bytesOf (contentOf xs)) xs (size-is ∙ sym (F .size)) (λ k h. agree k (omega (arith, size-is)))

@@ -18,8 +18,7 @@ use Rattle.content.specs.Content.{Kept, Content, nth, noRecord, strains,
 use Rattle.content.specs.Bytes.{bytesOf, Writable}
 use Rattle.content.specs.Adding.{distanceTo, parentFor, started, added}
 use Rattle.content.specs.Filing.{grownOf}
-use Rattle.content.proofs.Bytes.{content-of-bytes, bytes-are}
-use Rattle.content.proofs.Written.{count-written, record-written, wells-written}
+use Rattle.content.proofs.Bytes.{bytes-are, header-is, record-written, content-of-bytes}
 use Rattle.content.proofs.Levels.{Storable}
 use Rattle.content.proofs.Added.{added-strains}
 use Rattle.content.proofs.Accepted.{Fresh, parent-in, dist-is, away, added-writable, added-accepted}
@@ -47,12 +46,12 @@ module _ (c : Content) (s : Strain) (rest : List Strain) (sound : Sound c) (hold
   said = content-of-bytes c (sound .written)
 
   count-is : countOf xs ≡ length (strains c)
-  count-is = count-written c (sound .written) ∙ sym (length-map (c .records) (λ (r : Kept). r .strain))
+  count-is = header-is c (sound .written) .count ∙ sym (length-map (c .records) (λ (r : Kept). r .strain))
 
   -- a held strain is one of those, and so is the new one
   held : (i : ℕ) → i < countOf xs → List·Memᴰ (strainAt xs i) (strains c)
   held i h =
-      rw (ap (λ (r : Kept). r .strain) (record-written c (sound .written) i (rw (count-written c (sound .written)) at h)), ← List·getD-map (λ (r : Kept). r .strain) (c .records) i noRecord)
+      rw (ap (λ (r : Kept). r .strain) (record-written c (sound .written) i (rw (header-is c (sound .written) .count) at h)), ← List·getD-map (λ (r : Kept). r .strain) (c .records) i noRecord)
       (mem-getD (strains c) i (noRecord .strain) (omega (arith, count-is)))
 
   new-in : List·Memᴰ s (s ∷ rest)
@@ -63,7 +62,7 @@ module _ (c : Content) (s : Strain) (rest : List Strain) (sound : Sound c) (hold
     room = omega (arith, count-is, hold .count, length-append (strains c) (s ∷ rest));
     code = hold .code (Memᴰ·append-right (strains c) new-in);
     codeFits = hold .codeFits (Memᴰ·append-right (strains c) new-in);
-    profile = rw (wells-written c (sound .written)) (hold .profile (Memᴰ·append-right (strains c) new-in));
+    profile = rw (header-is c (sound .written) .wells) (hold .profile (Memᴰ·append-right (strains c) new-in));
     newCode = λ i h. distinct-apart (strains c) (s ∷ rest) (hold .codes) (held i h) new-in;
     newProfile = λ i h e.
         distinct-apart (strains c) (s ∷ rest) (hold .codes) (held i h) new-in
@@ -179,5 +178,5 @@ module _ (wells metric : ℕ) (ss : List Strain) (d : Strain) where
 -- the levels of a sound content can be stored
 pub sound-level : (c : Content) → Sound c → (i : ℕ) → i < length (c .records) → Storable (nth (c .records) i .level)
 sound-level c s i h =
-    let b = level-span (s .accepted .layout .levelByte i (omega (arith, count-written c (s .written)))) in
+    let b = level-span (s .accepted .layout .levelByte i (omega (arith, header-is c (s .written) .count))) in
     subst (λ (r : Kept). Storable (r .level)) (record-written c (s .written) i h) (record { least = b .0; most = b .1 })

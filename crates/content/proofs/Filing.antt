@@ -7,18 +7,18 @@ use native.Mathlib.Decide.{ℕ-discrete}
 use native.Mathlib.Omega.{arith}
 use lib.ListN.{length, getD}
 use Rattle.profile.specs.Distance.{Profile}
-use Rattle.ranking.proofs.Places.{getD-mem, distinct-getD}
+use Rattle.ranking.proofs.Places.{distinct-getD}
 use Rattle.ranking.proofs.Sorted.{sort-length, sort-mem, mem-sort, sort-ascending, sort-distinct, sort-sorted, sort-only-by-set}
 use Rattle.image.specs.Fields.{wellsOf, metricOf, countOf, codeAt, profileAt}
 use Rattle.image.specs.Strains.{Strain, each, strainAt, strainsOf}
 use Rattle.image.specs.Library.{Library}
-use Rattle.image.proofs.Strains.{strains-length, strain-is}
+use Rattle.image.proofs.Strains.{strains-length, strain-is, strain-record}
 use Rattle.image.proofs.Trees.{library-profiles}
 use Rattle.content.specs.Content.{Kept, Content, noRecord, strains, recordAt, recordsOf, contentOf}
 use Rattle.content.specs.Bytes.{bytesOf, Bytes, Roomy, Writable}
-use Rattle.content.specs.Filing.{byCode, grownOf, filed, filingForm}
-use Rattle.content.proofs.Bytes.{content-of-bytes, content-writable}
-use Rattle.content.proofs.Written.{content-count, content-nth, wells-written, metric-written}
+use Rattle.content.specs.Filing.{byCode, grownOf, filed, filingForm, Agree}
+use Rattle.content.proofs.Records.{content-count, content-nth}
+use Rattle.content.proofs.Bytes.{header-is, content-of-bytes, content-writable}
 use Rattle.content.proofs.Filed.{Holdable, Sound, grown-strains, grown-keeps, grown-sound}
 
 pub each-map : {A B : Type 0} (f : A → B) (g : ℕ → A) (i n : ℕ) → map f (each g i n) ≡ each (λ k. f (g k)) i n
@@ -39,15 +39,8 @@ module _ (xs : List ℕ) (b : Bytes xs) (l : Library xs) where
   unfolding contentOf
   roomy i h = rw (← content-nth xs i h) (content-writable xs b .each i (rw (content-count xs) h))
 
-  -- a strain of the library is that of a record
-  place : {s : Strain} → List·Memᴰ s (strainsOf xs) → (i : ℕ) × (i < countOf xs) × (strainAt xs i ≡ s)
-  place m =
-      let p = getD-mem (noRecord .strain) m in
-      let h : p .0 < countOf xs = omega (arith, p .1, strains-length xs) in
-      (p .0, h, sym (strain-is xs (p .0) (noRecord .strain) h) ∙ p .2)
-
   by-place : (P : Strain → Type 0) → ((i : ℕ) → i < countOf xs → P (strainAt xs i)) → {s : Strain} → List·Memᴰ s (strainsOf xs) → P s
-  by-place P f m = let p = place m in subst P (p .2) (f (p .0) (p .1))
+  by-place P f m = let p = strain-record xs m in subst P (p .2) (f (p .0) (p .1))
 
   code-is : (i : ℕ) → i < length (strainsOf xs) → getD (strainsOf xs) i (noRecord .strain) .code ≡ codeAt xs i
   code-is i h = ap (λ (s : Strain). s .code) (strain-is xs i (noRecord .strain) (omega (arith, strains-length xs)))
@@ -115,11 +108,11 @@ module _ (xs : List ℕ) (b : Bytes xs) (l : Library xs) where
 
   pub file-wells : wellsOf (filingForm xs) ≡ wellsOf xs
   unfolding filingForm filed
-  file-wells = wells-written c (filed-sound .written) ∙ grown-keeps (wellsOf xs) (metricOf xs) (byCode (strainsOf xs)) .wells
+  file-wells = header-is c (filed-sound .written) .wells ∙ grown-keeps (wellsOf xs) (metricOf xs) (byCode (strainsOf xs)) .wells
 
   pub file-metric : metricOf (filingForm xs) ≡ metricOf xs
   unfolding filingForm filed
-  file-metric = metric-written c (filed-sound .written) ∙ grown-keeps (wellsOf xs) (metricOf xs) (byCode (strainsOf xs)) .metric
+  file-metric = header-is c (filed-sound .written) .metric ∙ grown-keeps (wellsOf xs) (metricOf xs) (byCode (strainsOf xs)) .metric
 
   pub file-count : countOf (filingForm xs) ≡ countOf xs
   file-count = sym (strains-length (filingForm xs)) ∙ ap length file-strains ∙ sort-length codeOf (strainsOf xs) ∙ strains-length xs
@@ -144,11 +137,6 @@ module _ (xs : List ℕ) (b : Bytes xs) (l : Library xs) where
       (rw (file-strains xs b l) (sort-sorted (sort-ascending codeOf (strainsOf xs))))
 
 -- two libraries have one filing form exactly when they agree in wells, metric and the set of their strains
-pub record Agree (xs ys : List ℕ) : Type 0 where
-  pub wells : wellsOf xs ≡ wellsOf ys
-  pub metric : metricOf xs ≡ metricOf ys
-  pub strain : (s : Strain) → List·Memᴰ s (strainsOf xs) ↔ List·Memᴰ s (strainsOf ys)
-
 module _ (xs ys : List ℕ) (bx : Bytes xs) (by : Bytes ys) (lx : Library xs) (ly : Library ys) where
   pub file-only-by-set : (filingForm xs ≡ filingForm ys) ↔ Agree xs ys
   file-only-by-set = (there, back)

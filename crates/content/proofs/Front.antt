@@ -6,7 +6,7 @@ use native.Mathlib.Omega.{arith}
 use lib.ListN.{length, getD, take, drop, take-append-drop, length-drop}
 use lib.Seq.{length-take-le, getD-take, getD-drop, ext-getD}
 use Rattle.profile.specs.Level.{levelOf}
-use Rattle.image.specs.Fields.{editionOf, wellsOf, metricOf, countOf, rootOf, profilesOffsetOf, nodesOffsetOf, spareAt, profileStart, profileAt}
+use Rattle.image.specs.Fields.{editionOf, wellsOf, metricOf, countOf, rootOf, profilesOffsetOf, nodesOffsetOf, spareAt, profileStart, sizeOf, profileAt}
 use Rattle.image.proofs.Sizes.{row-in}
 use Rattle.content.specs.Content.{Kept, Content, noRecord, recordAt, recordsOf, firstOf, contentOf}
 use Rattle.content.specs.Bytes.{bytesOf, Bytes, Framed}
@@ -29,7 +29,7 @@ record-same xs ys i n w h k =
 
 -- a buffer in front of which a library is laid out
 pub record Laid (zs : List ℕ) (size : ℕ) : Type 0 where
-  pub isSize : size ≡ 16 + 8 * countOf zs + 2 * (wellsOf zs * countOf zs)
+  pub isSize : size ≡ sizeOf (wellsOf zs) (countOf zs)
   pub room : size ≤ length zs
   pub edition : editionOf zs ≡ 1
   pub profilesOffset : profilesOffsetOf zs ≡ 16 + 8 * countOf zs
@@ -79,7 +79,7 @@ module _ (zs : List ℕ) (b : Bytes zs) (size : ℕ) (l : Laid zs size) where
       record-is front (countOf zs) i g ∙ record-in i g ∙ sym (record-is zs (countOf zs) i g))
 
   says : contentOf front ≡ firstOf zs (countOf zs)
-  unfolding contentOf firstOf
+  unfolding contentOf
   says =
       (λ t. record { wells = fields .wells t; metric = fields .metric t; root = fields .root t; records = recordsOf front (fields .count t) })
       ∙ ap (λ (rs : List Kept). record { wells = wellsOf zs; metric = metricOf zs; root = rootOf zs; records = rs }) records-in

@@ -7,7 +7,7 @@ use lib.Dec.{T}
 use lib.IntN.{ℤ, pos, negsuc, sucℤ}
 use lib.Signed.{leZ, _≤ℤ_}
 use Rattle.profile.specs.Level.{coverLimit, bitLength, levelOf, fittingLevel}
-use Rattle.profile.proofs.Levels.{more-than, cover-mono, fitting-is}
+use Rattle.profile.proofs.Levels.{more-than, cover-mono, byte-least, fitting-is}
 use Rattle.profile.proofs.Signs.{le-no, le-parts, parts-le, suc-parts}
 use Rattle.tree.specs.Grow.{higher}
 
@@ -15,10 +15,6 @@ use Rattle.tree.specs.Grow.{higher}
 pub record Storable (e : ℤ) : Type 0 where
   pub least : negsuc 0 ≤ℤ e
   pub most : e ≤ℤ pos 20
-
-byte-least : (b : ℕ) → negsuc 0 ≤ℤ levelOf b
-byte-least zero = record { le = tt }
-byte-least (suc b) = record { le = tt }
 
 cover-20 : coverLimit (pos 20) ≡ 2097152
 unfolding coverLimit

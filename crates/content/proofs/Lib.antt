@@ -5,7 +5,6 @@ pub mod Numbers
 pub mod Same
 pub mod Bytes
 pub mod Front
-pub mod Written
 pub mod Taker
 pub mod Added
 pub mod Levels

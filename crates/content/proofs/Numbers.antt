@@ -12,6 +12,7 @@ use mir.Syntax.{w16}
 use mir.Val.{SFits}
 use Rattle.profile.specs.Bytes.{signed}
 use Rattle.profile.specs.Level.{levelOf}
+use Rattle.profile.proofs.Levels.{byte-least}
 use Rattle.profile.proofs.Signs.{same, less-up, less-down, le-parts, parts-le}
 use Rattle.content.specs.Bytes.{bytes16, bytes32, wordOf, levelByteOf}
 
@@ -106,5 +107,5 @@ byte-of-level zero = refl
 byte-of-level (suc b) = refl
 
 pub level-spans : (b : ℕ) → b < 256 → (negsuc 0 ≤ℤ levelOf b) × (levelOf b ≤ℤ pos 254)
-level-spans zero h = (record { le = tt }, record { le = tt })
-level-spans (suc b) h = (record { le = tt }, parts-le (pos b) (pos 254) (omega arith))
+level-spans zero h = (byte-least zero, record { le = tt })
+level-spans (suc b) h = (byte-least (suc b), parts-le (pos b) (pos 254) (omega arith))

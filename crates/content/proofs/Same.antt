@@ -13,6 +13,7 @@ use Rattle.profile.specs.Level.{levelOf}
 use Rattle.image.specs.Fields.{editionOf, wellsOf, metricOf, countOf, rootOf, profilesOffsetOf, nodesOffsetOf, codeAt, parentAt, levelByteAt, spareAt, levelAt}
 use Rattle.content.specs.Content.{Kept}
 use Rattle.content.specs.Bytes.{wordOf, headerBytes, nodeBytes, profileBytes, Roomy}
+use Rattle.content.specs.Headed.{Headed}
 use Rattle.content.proofs.Numbers.{read-16, read-32, signed-word, level-of-byte}
 
 -- ---- a node
@@ -116,17 +117,8 @@ header-same xs ys h = record {
   nodesOffset = omega (arith, h 12 (omega arith), h 13 (omega arith), h 14 (omega arith), h 15 (omega arith));
 }
 
-pub record HeaderWritten (ys : List ℕ) (w m n r : ℕ) : Type 0 where
-  pub edition : editionOf ys ≡ 1
-  pub wells : wellsOf ys ≡ w
-  pub metric : metricOf ys ≡ m
-  pub count : countOf ys ≡ n
-  pub root : rootOf ys ≡ r
-  pub profilesOffset : profilesOffsetOf ys ≡ 16 + 8 * n
-  pub nodesOffset : nodesOffsetOf ys ≡ 16
-
 pub header-written : (ys : List ℕ) (wells metric count root : ℕ)
-    → ((j : ℕ) → j < 16 → getD ys j 0 ≡ getD (headerBytes wells metric count root) j 0) → HeaderWritten ys wells metric count root
+    → ((j : ℕ) → j < 16 → getD ys j 0 ≡ getD (headerBytes wells metric count root) j 0) → Headed ys wells metric count root
 unfolding headerBytes
 header-written ys wells metric count root h =
     let s = header-same (headerBytes wells metric count root) ys h in

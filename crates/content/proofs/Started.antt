@@ -14,8 +14,7 @@ use Rattle.image.specs.Library.{Layout, treeOf, Library}
 use Rattle.content.specs.Content.{Kept, recordAt}
 use Rattle.content.specs.Bytes.{bytesOf, Roomy, Writable}
 use Rattle.content.specs.Adding.{started}
-use Rattle.content.proofs.Bytes.{bytes-framed}
-use Rattle.content.proofs.Written.{count-written, record-written, wells-written, metric-written, root-written}
+use Rattle.content.proofs.Bytes.{header-is, record-written, bytes-framed}
 use Rattle.content.proofs.Levels.{Storable, storable-byte}
 
 -- what a library can be started with
@@ -52,11 +51,11 @@ module _ (wells metric : ℕ) (s : Strain) (f : Startable wells metric s) where
 
   count-one : countOf xs ≡ 1
   unfolding started
-  count-one = count-written _ started-writable
+  count-one = header-is _ started-writable .count
 
   root-zero : rootOf xs ≡ 0
   unfolding started
-  root-zero = root-written _ started-writable
+  root-zero = header-is _ started-writable .root
 
   root-is : recordAt xs 0 ≡ root
   unfolding started
@@ -75,8 +74,8 @@ module _ (wells metric : ℕ) (s : Strain) (f : Startable wells metric s) where
       let frame = bytes-framed _ started-writable in
       record {
         edition = frame .edition;
-        wells = rw (wells-written _ started-writable) (f .wellsIn);
-        metric = rw (metric-written _ started-writable) (f .metricIn);
+        wells = rw (header-is _ started-writable .wells) (f .wellsIn);
+        metric = rw (header-is _ started-writable .metric) (f .metricIn);
         count = rw count-one (omega arith, omega arith);
         profilesOffset = frame .profilesOffset;
         nodesOffset = frame .nodesOffset;

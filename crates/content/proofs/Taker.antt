@@ -80,18 +80,3 @@ module _ (metric : ℕ) (x : List ℤ) where
         by u (inl q) = rw q (not-itself (at root))
         by u (inr h) = absurd (omega (arith, h .0))
     taker-is (suc n) = next n _ (taker-is n) _ _ refl refl
-
-  -- and there is one such record, if no two have one code
-  pub one-taker : {root : ℕ} {at : ℕ → Kept} {n v w : ℕ} → Taker root at n v → Taker root at n w → at v .strain .code ≡ at w .strain .code
-  one-taker {at = at} {v = v} {w = w} t u = by (ℕ-discrete (at v .strain .code) (at w .strain .code))
-    where
-      far : distanceTo metric x (at v) ≡ distanceTo metric x (at w)
-      far = omega (arith, as-far (at w) (at v) (t .first w (u .can)), as-far (at v) (at w) (u .first v (t .can)))
-
-      lowest-code : Dec (at w .strain .code ≤ at v .strain .code) → (at v .strain .code ≡ at w .strain .code → ⊥) → ⊥
-      lowest-code (yes h) ne = tells-nearer (at w) (at v) .no (t .first w (u .can)) (inr (sym far, omega (arith, ne)))
-      lowest-code (no f) ne = tells-nearer (at v) (at w) .no (u .first v (t .can)) (inr (far, lt-of-not-le f))
-
-      by : Dec (at v .strain .code ≡ at w .strain .code) → at v .strain .code ≡ at w .strain .code
-      by (yes e) = e
-      by (no ne) = absurd (lowest-code (decLe (at w .strain .code) (at v .strain .code)) ne)

@@ -6,7 +6,7 @@ use lib.IntN.{ℤ, pos, negsuc}
 use lib.ListN.{length, getD}
 use lib.Signed.{_≤ℤ_}
 use Rattle.profile.specs.Distance.{Profile}
-use Rattle.image.specs.Fields.{editionOf, wellsOf, countOf, profilesOffsetOf, nodesOffsetOf, spareAt}
+use Rattle.image.specs.Fields.{editionOf, wellsOf, countOf, profilesOffsetOf, nodesOffsetOf, spareAt, sizeOf}
 use Rattle.content.specs.Content.{Kept, Content, nth}
 
 -- little-endian numbers
@@ -21,7 +21,7 @@ unfoldable pub wordOf : ℤ → ℕ
 wordOf (pos n) = n
 wordOf (negsuc k) = 65535 - k
 
--- a level's byte: the level plus 1
+-- the byte of a level from -1 up: the level plus 1. Below -1, 0 stands
 unfoldable pub levelByteOf : ℤ → ℕ
 levelByteOf (pos n) = suc n
 levelByteOf (negsuc k) = 0
@@ -69,5 +69,5 @@ pub record Framed (xs : List ℕ) : Type 0 where
   pub edition : editionOf xs ≡ 1
   pub profilesOffset : profilesOffsetOf xs ≡ 16 + 8 * countOf xs
   pub nodesOffset : nodesOffsetOf xs ≡ 16
-  pub size : length xs ≡ 16 + 8 * countOf xs + 2 * (wellsOf xs * countOf xs)
+  pub size : length xs ≡ sizeOf (wellsOf xs) (countOf xs)
   pub spare : (i : ℕ) → i < countOf xs → spareAt xs i ≡ 0

@@ -42,9 +42,9 @@ unfoldable pub recordsOf : List ℕ → ℕ → List Kept
 recordsOf xs n = each (recordAt xs) 0 n
 
 -- what a library's bytes say up to record n
-unfoldable pub firstOf : List ℕ → ℕ → Content
+abbrev pub firstOf : List ℕ → ℕ → Content
 firstOf xs n = record { wells = wellsOf xs; metric = metricOf xs; root = rootOf xs; records = recordsOf xs n }
 
 -- all that they say
 unfoldable pub contentOf : List ℕ → Content
-contentOf xs = record { wells = wellsOf xs; metric = metricOf xs; root = rootOf xs; records = recordsOf xs (countOf xs) }
+contentOf xs = firstOf xs (countOf xs)

@@ -1,5 +1,7 @@
 -- Filing: document 01, "start with the lowest code, then add the rest in ascending order of code". Assumes nothing.
-use mathlib.Core.List.{List, [], _∷_, foldl}
+use mathlib.Core.Path.{_≡_}
+use mathlib.Core.Logic.{_↔_}
+use mathlib.Core.List.{List, [], _∷_, foldl, List·Memᴰ}
 use Prim.Native.Nat.{ℕ}
 use Rattle.ranking.specs.Sort.{sortBy}
 use Rattle.image.specs.Fields.{wellsOf, metricOf}
@@ -23,3 +25,9 @@ filed wells metric ss = grownOf wells metric (byCode ss)
 -- the filing form of a library
 unfoldable pub filingForm : List ℕ → List ℕ
 filingForm xs = bytesOf (filed (wellsOf xs) (metricOf xs) (strainsOf xs))
+
+-- two libraries agree in wells, metric and the set of their strains
+pub record Agree (xs ys : List ℕ) : Type 0 where
+  pub wells : wellsOf xs ≡ wellsOf ys
+  pub metric : metricOf xs ≡ metricOf ys
+  pub strain : (s : Strain) → List·Memᴰ s (strainsOf xs) ↔ List·Memᴰ s (strainsOf ys)

@@ -19,7 +19,7 @@ use Rattle.checker.specs.Tests.{outside}
 use Rattle.checker.specs.Check.{treeRules, recordRules, layoutRules, headerRules, checkRules}
 use Rattle.checker.proofs.Passed.{inside}
 use Rattle.build.specs.Rules.{startRules, roomRules, strainRules, addRules, fileRules}
-use Rattle.search.specs.Rules.{short, plateRules, sittingRules, radiusRules, withinRules}
+use Rattle.search.specs.Rules.{sliceRules, plateRules, sittingRules, radiusRules, withinRules}
 use Rattle.host.proofs.Words.{none-fits, record-fits, pair-fits, PlaceFits, VerdictFits, accepted-fits, refused-fits}
 
 -- ---- of any rules
@@ -108,12 +108,12 @@ module _ (xs : List ℕ) (few : countOf xs ≤ 65536) where
   file-fits room = judge-fits (fits-append check-rules (next refl (whole-fits _) end))
 
   pub sitting-fits : (values k codes distances : ℕ) → VerdictFits (judge (sittingRules xs values k codes distances))
-  unfolding sittingRules plateRules short
+  unfolding sittingRules plateRules sliceRules
   sitting-fits values k codes distances =
       judge-fits (fits-append check-rules (next refl (whole-fits _) (next refl (whole-fits _) (next refl (whole-fits _) end))))
 
   pub within-fits : (values codes distances : ℕ) → VerdictFits (judge (withinRules xs values codes distances))
-  unfolding withinRules radiusRules short
+  unfolding withinRules radiusRules sliceRules
   within-fits values codes distances = judge-fits (fits-append check-rules (next refl (whole-fits _) (next refl (whole-fits _) end)))
 
   pub check-fits : VerdictFits (judge (checkRules xs))

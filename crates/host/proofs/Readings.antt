@@ -17,7 +17,8 @@ use Rattle.content.specs.Bytes.{Bytes, bytesOf}
 use Rattle.content.specs.Adding.{started}
 use Rattle.content.proofs.Blocks.{bytes-take}
 use Rattle.build.specs.Rules.{startRules}
-use Rattle.build.specs.Calls.{strainOf, startOf, addOf, fileOf}
+use Rattle.image.specs.Strains.{strainOf}
+use Rattle.build.specs.Calls.{startOf, addOf, fileOf}
 use Rattle.build.proofs.Passed.{starts}
 use Rattle.build.proofs.Theorems.{add-accepted, filed-accepted}
 use Rattle.search.specs.Answer as search

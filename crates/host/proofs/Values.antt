@@ -16,9 +16,9 @@ use Rattle.content.specs.Bytes.{Bytes, bytesOf, headerBytes, nodeBytes, profile
 use Rattle.content.specs.Adding.{started}
 use Rattle.content.proofs.Blocks.{blocks-length}
 use Rattle.content.proofs.Bytes.{header-length, node-length, profile-length}
-use Rattle.build.specs.Calls.{strainOf}
+use Rattle.image.specs.Strains.{strainOf}
 use Rattle.walk.specs.Measured.{isMeasured, measuredFrom, measuredCount}
-use Rattle.search.specs.Ranked.{ranked, inside, near}
+use Rattle.search.specs.Ranked.{ranked, inside, withinRadius}
 use Rattle.search.proofs.Lists.{ranked-length}
 
 -- ---- lengths
@@ -65,8 +65,8 @@ inside-few radius (f ∷ fs) = by (leb (f .distance) radius) (inside-few radius 
 
 module _ (xs : List ℕ) (radius : ℕ) (plate : List ℤ) where
   -- no more strains within a radius than there are
-  pub near-few : length (near xs radius plate) ≤ countOf xs
-  unfolding near
+  pub near-few : length (withinRadius xs radius plate) ≤ countOf xs
+  unfolding withinRadius
   near-few = omega (arith, inside-few radius (ranked xs plate), ranked-length xs plate)
 
   measured-from : (i many : ℕ) → measuredFrom xs radius plate i many ≤ many

@@ -4,8 +4,6 @@
 use Prim.Native.Nat.{ℕ, _+_, _*_, _%_}
 use Rattle.image.specs.declared.refusal.Place.{Place}
 use Rattle.image.specs.declared.refusal.Place.the-variants.{None, Record, Pair}
-use Rattle.image.specs.declared.refusal.Refusal.{Refusal}
-use Rattle.image.specs.Refusals.{numberOf, placeOf}
 use Rattle.image.specs.Verdict.{Verdict, accepted, refused}
 use Rattle.image.specs.Answer.{Answer, given, denied}
 use Rattle.search.specs.Answer.{Counts}
@@ -24,9 +22,6 @@ placeWord (Pair earlier later) = 512 + first earlier + second later
 
 abbrev pub refusedWord : ℕ → Place → ℕ
 refusedWord number place = number + placeWord place
-
-abbrev pub refusalWord : Refusal → ℕ
-refusalWord r = refusedWord (numberOf r) (placeOf r)
 
 -- the check's verdict, which tells no value
 abbrev pub verdictWord : Verdict → ℕ

@@ -4,7 +4,7 @@ ghost use mathlib.Core.Path.{_≡_};
 ghost use Rattle.checker.specs.Check.{checkOf};
 ghost use Rattle.build.specs.Calls.{startOf, addOf, fileOf};
 ghost use Rattle.search.specs.Calls.{sittingOf, withinOf};
-ghost use Rattle.short.specs.Short.{shortOf, Numbered};
+ghost use Rattle.short.specs.Short.{ShortGives};
 ghost use Rattle.host.specs.Word.{first, counts, verdictWord};
 ghost use Rattle.host.specs.Doors.{Wrote, Searched};
 use checker::Checked;
@@ -83,7 +83,7 @@ pub extern "C" fn kw_within(
 // The short call: the five nearest strains of one plate that comes in bytes. The result is 0 or the refusal number.
 #[no_mangle]
 pub extern "C" fn kw_short(image: &[u8], plate: &[u8], out: &mut [u8]) -> u32
-    ensures { λ r. ⌜ Numbered (shortOf (now (image .entry)) (now (plate .entry)) (now (out .entry))) r (now (out .exit)) ⌝ }
+    ensures { λ r. ⌜ ShortGives (now (image .entry)) (now (plate .entry)) (now (out .entry)) r (now (out .exit)) ⌝ }
 {
     short::short(image, plate, out)
 }

@@ -1,9 +1,10 @@
 // The answer word of each call.
 ghost use mathlib.Core.Path.{_≡_};
 ghost use Prim.Native.Nat.{_<_};
+ghost use Rattle.image.specs.Refusals.{numberOf, placeOf};
 ghost use Rattle.build.specs.Answer.{answerOf};
 ghost use Rattle.search.specs.Answer.{sittingAnswer, withinAnswer};
-ghost use Rattle.host.specs.Word.{first as Word·first, second as Word·second, placeWord, refusalWord, answerWord, counts};
+ghost use Rattle.host.specs.Word.{first as Word·first, second as Word·second, placeWord, refusedWord, answerWord, counts};
 use build::Built;
 use image::refusal::Place;
 use image::refusal::Refusal;
@@ -33,7 +34,7 @@ fn place(told: Place) -> u64
 }
 
 pub fn refusal(told: Refusal) -> u64
-    ensures { λ r. ⌜ r ≡ refusalWord told ⌝ }
+    ensures { λ r. ⌜ r ≡ refusedWord (numberOf told) (placeOf told) ⌝ }
 {
     image::refusal::number(told) as u64 + place(image::refusal::told_at(told))
 }

@@ -8,3 +8,4 @@ pub mod Verdicts
 pub mod Faults
 pub mod Answers
 pub mod Outcomes
+pub mod Runs

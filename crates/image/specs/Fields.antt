@@ -51,6 +51,10 @@ levelAt xs i = levelOf (levelByteAt xs i)
 abbrev pub profileStart : ℕ → ℕ → ℕ → ℕ
 profileStart count wells i = 16 + 8 * count + 2 * (wells * i)
 
+-- how long a library of so many strains and wells is
+abbrev pub sizeOf : (wells count : ℕ) → ℕ
+sizeOf wells count = 16 + 8 * count + 2 * (wells * count)
+
 -- the profile of record i
 unfoldable pub profileAt : List ℕ → ℕ → List ℤ
 profileAt xs i = wellsAt xs (profileStart (countOf xs) (wellsOf xs) i) (wellsOf xs)

@@ -7,7 +7,7 @@ use lib.IntN.{ℤ}
 use lib.ListN.{length}
 use Rattle.profile.specs.Distance.{distance}
 use Rattle.tree.specs.Tree.{Tree, CoverTree}
-use Rattle.image.specs.Fields.{editionOf, wellsOf, metricOf, countOf, rootOf, profilesOffsetOf, nodesOffsetOf, codeAt, parentAt, levelByteAt, levelAt, spareAt, profileAt}
+use Rattle.image.specs.Fields.{editionOf, wellsOf, metricOf, countOf, rootOf, profilesOffsetOf, nodesOffsetOf, codeAt, parentAt, levelByteAt, levelAt, spareAt, sizeOf, profileAt}
 
 -- document 01, "Image layout"
 pub record Layout (xs : List ℕ) : Type 0 where
@@ -17,7 +17,7 @@ pub record Layout (xs : List ℕ) : Type 0 where
   pub count : (1 ≤ countOf xs) × (countOf xs ≤ 1024)
   pub profilesOffset : profilesOffsetOf xs ≡ 16 + 8 * countOf xs
   pub nodesOffset : nodesOffsetOf xs ≡ 16
-  pub size : length xs ≡ 16 + 8 * countOf xs + 2 * (wellsOf xs * countOf xs)
+  pub size : length xs ≡ sizeOf (wellsOf xs) (countOf xs)
   pub root : rootOf xs < countOf xs
   pub rootParent : parentAt xs (rootOf xs) ≡ rootOf xs
   pub code : (i : ℕ) → i < countOf xs → codeAt xs i ≢ 0

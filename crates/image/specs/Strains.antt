@@ -8,6 +8,9 @@ pub record Strain : Type 0 where
   pub code : ℕ
   pub profile : List ℤ
 
+abbrev pub strainOf : ℕ → List ℤ → Strain
+strainOf code profile = record { code = code; profile = profile }
+
 -- f at so many numbers, from i on
 unfoldable pub each {ℓ} : {A : Type ℓ} → (ℕ → A) → ℕ → ℕ → List A
 each f i zero = []

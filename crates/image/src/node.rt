@@ -2,7 +2,7 @@
 ghost use mathlib.Core.Path.{_≡_};
 ghost use Prim.Native.Nat.{_+_, _*_, _≤_, _<_};
 ghost use lib.ListN.{length};
-ghost use Rattle.image.specs.Fields.{codeAt, parentAt, levelByteAt, levelAt, spareAt, profileStart};
+ghost use Rattle.image.specs.Fields.{codeAt, parentAt, levelByteAt, levelAt, spareAt, profileStart, sizeOf};
 
 pub fn code(image: &[u8], i: usize) -> u32
     requires { ⌜ 24 + 8 * i ≤ length (now image) ⌝ }
@@ -44,7 +44,7 @@ pub fn level(image: &[u8], i: usize) -> i32
 // The first byte of record i's profile, in a library of so many strains and wells.
 pub fn profile_start(count: usize, wells: usize, i: usize) -> usize
     requires { ⌜ (count ≤ 1024) × (wells ≤ 16) × (i < count) ⌝ }
-    ensures { λ r. ⌜ (r ≡ profileStart count wells i) × (r + 2 * wells ≤ 16 + 8 * count + 2 * (wells * count)) ⌝ }
+    ensures { λ r. ⌜ (r ≡ profileStart count wells i) × (r + 2 * wells ≤ sizeOf wells count) ⌝ }
 {
     16 + 8 * count + 2 * (wells * i)
 }

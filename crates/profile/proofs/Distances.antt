@@ -5,10 +5,12 @@ use mathlib.Core.List.{List, [], _∷_}
 use Prim.Native.Nat.{ℕ, zero, suc, _+_, _*_, _≤_, _<_, max, zero-le}
 use native.Mathlib.Numerals.{add-one}
 use native.Mathlib.Omega.{arith}
-use lib.IntN.{ℤ}
-use lib.ListN.{length, getD, drop, drop-of-length-le}
+use lib.IntN.{ℤ, pos, negsuc}
+use lib.ListN.{length, getD, drop, replicate, drop-of-length-le}
 use lib.Seq.{drop-cons}
-use Rattle.profile.specs.Distance.{Wells, well, Profile, gap, joined, cityBlock, largest, distance}
+use mir.Syntax.{w16}
+use mir.Val.{SFits}
+use Rattle.profile.specs.Distance.{Wells, none, well, Profile, gap, joined, cityBlock, largest, distance}
 use Rattle.profile.specs.Metric.{Metric}
 use Rattle.profile.proofs.Wells.{gap-self, gap-symmetric, gap-triangle, gap-apart, gap-bound}
 
@@ -108,27 +110,49 @@ unfolding distance
 distance-metric m w (inl e) = subst⁻¹ (λ (k : ℕ). Metric (List ℤ) (λ xs. length xs ≡ w) (distance k)) e (joined-metric _+_ joins-sum w)
 distance-metric m w (inr e) = subst⁻¹ (λ (k : ℕ). Metric (List ℤ) (λ xs. length xs ≡ w) (distance k)) e (joined-metric max joins-max w)
 
+-- ---- why the sum of squares is never used
+
+-- the sum of the wells' squared differences
+abbrev pub squares : List ℤ → List ℤ → ℕ
+squares = joined (λ g rest. g * g + rest)
+
+-- it breaks the triangle inequality: from 0 by 1 to 2 is nearer than from 0 to 2
+pub squares-break : squares (pos 0 ∷ []) (pos 1 ∷ []) + squares (pos 1 ∷ []) (pos 2 ∷ []) < squares (pos 0 ∷ []) (pos 2 ∷ [])
+unfolding joined gap
+squares-break = omega arith
+
 -- ---- how large a distance can be
 
-city-block-bound : (xs ys : List ℤ) → Wells xs → Wells ys → cityBlock xs ys ≤ 65535 * length xs
+-- neither way of joining gives more than the sum
+joined-bound : (op : ℕ → ℕ → ℕ) → ((m n : ℕ) → op m n ≤ m + n) → (xs ys : List ℤ) → Wells xs → Wells ys → joined op xs ys ≤ 65535 * length xs
 unfolding joined
-city-block-bound [] ys p q = zero-le
-city-block-bound (x ∷ xs) [] p q = zero-le
-city-block-bound (x ∷ xs) (y ∷ ys) (well f p) (well g q) = omega (arith, gap-bound x y f g, city-block-bound xs ys p q)
-
-largest-bound : (xs ys : List ℤ) → Wells xs → Wells ys → largest xs ys ≤ 65535 * length xs
-unfolding joined
-largest-bound [] ys p q = zero-le
-largest-bound (x ∷ xs) [] p q = zero-le
-largest-bound (x ∷ xs) (y ∷ ys) (well f p) (well g q) = omega (arith, gap-bound x y f g, largest-bound xs ys p q)
+joined-bound op sum [] ys p q = zero-le
+joined-bound op sum (x ∷ xs) [] p q = zero-le
+joined-bound op sum (x ∷ xs) (y ∷ ys) (well f p) (well g q) =
+    omega (arith, sum (gap x y) (joined op xs ys), gap-bound x y f g, joined-bound op sum xs ys p q)
 
 pub distance-bound : (m w : ℕ) {xs ys : List ℤ} → Profile w xs → Profile w ys → distance m xs ys ≤ 65535 * w
 unfolding distance
 distance-bound zero w p q = zero-le
-distance-bound (suc zero) w {xs} {ys} p q = omega (arith, p .count, city-block-bound xs ys (p .values) (q .values))
-distance-bound (suc (suc zero)) w {xs} {ys} p q = omega (arith, p .count, largest-bound xs ys (p .values) (q .values))
+distance-bound (suc zero) w {xs} {ys} p q = omega (arith, p .count, joined-bound _+_ (λ m n. omega arith) xs ys (p .values) (q .values))
+distance-bound (suc (suc zero)) w {xs} {ys} p q = omega (arith, p .count, joined-bound max (λ m n. omega arith) xs ys (p .values) (q .values))
 distance-bound (suc (suc (suc m))) w p q = zero-le
 
 -- with at most 16 wells
 pub distance-most : (m w : ℕ) {xs ys : List ℤ} → w ≤ 16 → Profile w xs → Profile w ys → distance m xs ys ≤ 1048560
 distance-most m w h p q = omega (arith, distance-bound m w p q)
+
+all-wells : {z : ℤ} → SFits w16 z → (n : ℕ) → Wells (replicate n z)
+all-wells f zero = none
+all-wells f (suc n) = well f (all-wells f n)
+
+-- and that is reached, by metric 1 on 16 wells at their two ends
+pub distance-reached : (xs ys : List ℤ) × Profile 16 xs × Profile 16 ys × (distance 1 xs ys ≡ 1048560)
+unfolding distance joined gap
+distance-reached = (
+  replicate 16 (pos 32767),
+  replicate 16 (negsuc 32767),
+  record { count = refl; values = all-wells (record { sfits = omega arith }) 16 },
+  record { count = refl; values = all-wells (record { sfits = omega arith }) 16 },
+  refl,
+)

@@ -13,8 +13,8 @@ use lib.Pow.{pow-pos, pow-mono}
 use mir.Syntax.{w32}
 use mir.Val.{SFits, toZ}
 use mir.ValLaws.{toZ-pos}
-use Rattle.profile.specs.Level.{_>2^_, _≤2^_, Fitting, levelOf, lower, bits, bitLength, fittingLevel, coverLimit, reach, Printed}
-use Rattle.profile.proofs.Signs.{same, less-up, less-down, le-no, le-parts, parts-le, lt-parts, suc-parts}
+use Rattle.profile.specs.Level.{_>2^_, _≤2^_, Fitting, levelOf, lower, bits, bitLength, fittingLevel, coverLimit, Printed}
+use Rattle.profile.proofs.Signs.{same, less-up, less-down, le-no, le-parts, parts-le, lt-parts, parts-lt, suc-parts}
 
 -- ---- the cover limit, and the powers compared by it
 
@@ -22,10 +22,6 @@ pub cover-byte : (b : ℕ) → coverLimit (levelOf b) ≡ 2 ^ b
 unfolding coverLimit
 cover-byte zero = refl
 cover-byte (suc b) = refl
-
-pub reach-byte : (b : ℕ) → reach (levelOf b) ≡ 2 ^ b - 1
-unfolding reach
-reach-byte b = ap (λ (n : ℕ). n - 1) (cover-byte b)
 
 -- a level whose cover limit is not 0 is one from -1 up
 pub byte-of : (e : ℤ) → 0 < coverLimit e → (b : ℕ) × (e ≡ levelOf b)
@@ -61,6 +57,16 @@ at-most-level d (negsuc zero) = (λ h. omega arith, λ h. omega arith)
 at-most-level zero (negsuc (suc k)) = (λ h. omega arith, λ h. omega (arith, zero-mul (2 ^ suc (suc k))))
 at-most-level (suc d) (negsuc (suc k)) = (λ h. absurd (omega (arith, doubled (suc d) (suc k))), λ h. absurd (omega arith))
 
+-- at level -1 the cover limit is 1, and separation fails only at distance 0
+pub lowest-cover : (d : ℕ) → d ≤2^ sucℤ (negsuc 0) ↔ (d ≤ 1)
+unfolding _≤2^_
+lowest-cover d = (λ h. omega arith, λ h. omega arith)
+
+pub lowest-apart : (d : ℕ) → (d >2^ negsuc 0 → ⊥) ↔ (d ≡ 0)
+unfolding _>2^_
+lowest-apart zero = (λ f. refl, λ e h. absurd (omega arith))
+lowest-apart (suc d) = (λ f. absurd (f (omega arith)), λ e. absurd (omega arith))
+
 -- ---- the order of levels
 
 -- the cover limit never falls as the level rises, and doubles at least from one level to the next
@@ -95,10 +101,15 @@ level-in-32 (suc b) h = record { sfits = omega arith }
 pub level-less : (b : ℕ) → b < 256 → toZ w32 b -ℤ pos 1 ≡ levelOf b
 level-less b h = ap (λ (z : ℤ). z -ℤ pos 1) (toZ-pos w32 b (omega arith)) ∙ -ℤ-one (pos b)
 
+-- no byte's level is below -1
+pub byte-least : (b : ℕ) → negsuc 0 ≤ℤ levelOf b
+byte-least zero = record { le = tt }
+byte-least (suc b) = record { le = tt }
+
 -- the levels of the bytes up to 21 run from -1 to 20
 pub level-span : {b : ℕ} → b ≤ 21 → (negsuc 0 ≤ℤ levelOf b) × (levelOf b ≤ℤ pos 20)
-level-span {b = zero} h = (record { le = tt }, record { le = tt })
-level-span {b = suc b} h = (record { le = tt }, parts-le (pos b) (pos 20) (omega arith))
+level-span {b = zero} h = (byte-least zero, record { le = tt })
+level-span {b = suc b} h = (byte-least (suc b), parts-le (pos b) (pos 20) (omega arith))
 
 pub span-byte : {e : ℤ} → (negsuc 0 ≤ℤ e) × (e ≤ℤ pos 20) → (b : ℕ) × (e ≡ levelOf b) × (b ≤ 21)
 span-byte {e = pos n} h = (suc n, refl, omega (arith, le-parts (h .1)))
@@ -205,6 +216,23 @@ fitting-exactly d e h = (
   λ f. fitting-one d e (fittingLevel d) f (fitting-is d h),
   λ p. rw p (fitting-is d h),
 )
+
+-- a level exceeds the fitting level of a distance exactly where the distance is at most 2 ^ level
+pub over-fitting : (d : ℕ) (m : ℤ) → 0 < d → (d ≤2^ m) ↔ (fittingLevel d <ℤ m)
+over-fitting d m h = (
+  λ k. go k (leZ m (fittingLevel d)) refl,
+  λ l. at-most-level d m .1 (omega (arith, fitting-within (fitting-is d h), cover-doubles l)),
+)
+  where
+    go : d ≤2^ m → (b : Bool) → leZ m (fittingLevel d) ≡ b → fittingLevel d <ℤ m
+    go k true e =
+        absurd (omega (
+          arith,
+          fitting-above (fitting-is d h),
+          at-most-level d m .0 k,
+          cover-mono {a = m} {b = fittingLevel d} (record { le = subst⁻¹ T e tt }),
+        ))
+    go k false e = parts-lt (fittingLevel d) m (omega (arith, le-no m (fittingLevel d) e))
 
 -- by the leading zeros, of 32, of d - 1, which is `byte` bits long
 pub fitting-leading : (d zeros byte : ℕ) → 0 < d → zeros + byte ≡ 32 → d - 1 < 2 ^ byte → 2 ^ byte ≤ 2 * (d - 1) + 1 → pos 31 -ℤ pos zeros ≡ fittingLevel d

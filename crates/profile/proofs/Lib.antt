@@ -4,4 +4,3 @@ pub mod Wells
 pub mod Distances
 pub mod Levels
 pub mod Reading
-pub mod Examples

@@ -48,7 +48,7 @@ coverLimit (pos level) = 2 ^ suc level
 coverLimit (negsuc zero) = 1
 coverLimit (negsuc (suc k)) = 0
 
--- the reach of a level, 2 ^ (level + 1) - 1
+-- the reach of a level from -1 up, 2 ^ (level + 1) - 1. Below -1, 0 stands
 unfoldable pub reach : ℤ → ℕ
 reach level = coverLimit level - 1
 

@@ -3,9 +3,10 @@ use mathlib.Core.Path.{_≡_, sym, _∙_, ap, ap₂}
 use mathlib.Core.List.{List}
 use Prim.Native.Nat.{ℕ}
 use native.Mathlib.Omega.{arith}
+use lib.IntN.{ℤ}
 use Rattle.image.proofs.Answers.{told-by}
-use Rattle.image.specs.Answer.{Answer}
-use Rattle.search.specs.Answer.{Outcome, Counts, sittingAnswer, withinAnswer}
+use Rattle.search.specs.Answer.{Counts, sittingAnswer, withinAnswer}
+use Rattle.search.specs.Calls.{SittingGives, WithinGives}
 use Rattle.search.specs.declared.Served.{Served}
 use Rattle.search.specs.declared.Gathered.{Gathered}
 
@@ -23,21 +24,16 @@ same-gathered (Gathered.Inside m n) (Gathered.Refused s) e = let z : _≡_ {A = 
 same-gathered (Gathered.Refused r) (Gathered.Inside p q) e = let z : _≡_ {A = ℕ} 0 1 = cc in absurd (omega arith)
 same-gathered (Gathered.Refused r) (Gathered.Refused s) e = ap Gathered.Refused (told-by r s (cc) (cc))
 
--- an outcome tells its answer and both slices
-parts : {Told : Type 0} {a b : Answer Told} {codes codes′ distances distances′ : List ℕ} (o : Outcome Told)
-    → record { answer = a; codes = codes; distances = distances } ≡ o
-    → record { answer = b; codes = codes′; distances = distances′ } ≡ o
-    → (a ≡ b) × (codes ≡ codes′) × (distances ≡ distances′)
-parts o p q = let e = p ∙ sym q in (ap (λ x. x .answer) e, ap (λ x. x .codes) e, ap (λ x. x .distances) e)
+-- what the contract of the sitting leaves open: nothing
+pub one-answer : (image : List ℕ) (plates : List ℤ) (k : ℕ) (codes distances : List ℕ) {r s : Served} {codes′ codes″ distances′ distances″ : List ℕ}
+    → SittingGives image plates k codes distances r codes′ distances′ → SittingGives image plates k codes distances s codes″ distances″
+    → (r ≡ s) × (codes′ ≡ codes″) × (distances′ ≡ distances″)
+one-answer image plates k codes distances {r} {s} p q =
+    let e = p ∙ sym q in (same-served r s (ap (λ o. o .answer) e), ap (λ o. o .codes) e, ap (λ o. o .distances) e)
 
-pub one-answer : (r s : Served) (codes codes′ distances distances′ : List ℕ) (o : Outcome ℕ)
-    → record { answer = sittingAnswer r; codes = codes; distances = distances } ≡ o
-    → record { answer = sittingAnswer s; codes = codes′; distances = distances′ } ≡ o
-    → (r ≡ s) × (codes ≡ codes′) × (distances ≡ distances′)
-one-answer r s codes codes′ distances distances′ o p q = let w = parts o p q in (same-served r s (w .0), w .1, w .2)
-
-pub one-answer-within : (r s : Gathered) (codes codes′ distances distances′ : List ℕ) (o : Outcome Counts)
-    → record { answer = withinAnswer r; codes = codes; distances = distances } ≡ o
-    → record { answer = withinAnswer s; codes = codes′; distances = distances′ } ≡ o
-    → (r ≡ s) × (codes ≡ codes′) × (distances ≡ distances′)
-one-answer-within r s codes codes′ distances distances′ o p q = let w = parts o p q in (same-gathered r s (w .0), w .1, w .2)
+-- and that of the search within a radius
+pub one-answer-within : (image : List ℕ) (plate : List ℤ) (radius : ℕ) (codes distances : List ℕ) {r s : Gathered} {codes′ codes″ distances′ distances″ : List ℕ}
+    → WithinGives image plate radius codes distances r codes′ distances′ → WithinGives image plate radius codes distances s codes″ distances″
+    → (r ≡ s) × (codes′ ≡ codes″) × (distances′ ≡ distances″)
+one-answer-within image plate radius codes distances {r} {s} p q =
+    let e = p ∙ sym q in (same-gathered r s (ap (λ o. o .answer) e), ap (λ o. o .codes) e, ap (λ o. o .distances) e)

@@ -14,7 +14,7 @@ use Rattle.walk.specs.declared.next.Met.{Met}
 use Rattle.walk.specs.Forest.{Forest, none, grow, nodes, join, after, forestOf}
 use Rattle.walk.specs.Walk.{Reaching, measures, within, Passing}
 use Rattle.walk.specs.Weighed.{weighed, foundAt, reachAt}
-use Rattle.walk.specs.Laid.{Walking, Meets}
+use Rattle.walk.specs.LaidOut.{Walking, Meets}
 use Rattle.walk.proofs.Places.{Standing, nodes-join, nodes-after, under-after}
 use Rattle.walk.proofs.Passing.{passing-within, passing-measures, passing-length, met-within, met-measures}
 use Rattle.walk.proofs.Steps.{order-at, here-stands}
@@ -117,9 +117,9 @@ module _ {xs : List ℕ} {metric wells count : ℕ} {order end : List ℕ} {plat
   reaching-after : (i : ℕ) → Reaching (foundAt xs plate) (reachAt xs) (after i (forestOf xs))
   reaching-after i = under-after i (forest-reaching (w .library) plate (w .fits ∙ w .isWells))
 
-  pub gather-start : (met : Met) → Meets xs plate radius 0 met → Gathered xs plate radius before before (met .place) 0 (met .passed)
+  pub gather-start : (met : Met) → Meets xs plate radius 0 met → Gathered xs plate radius before before (met .place) 0 (met .measured)
   unfolding after
-  gather-start met m = rw (zero-add (met .passed)) at (gathering-past (reaching-after 0) (m .passing) (gathering-none {before = before}))
+  gather-start met m = rw (zero-add (met .measured)) at (gathering-past (reaching-after 0) (m .passing) (gathering-none {before = before}))
 
   module _ (ranks : List ℕ) (place strains measured : ℕ) (g : Gathered xs plate radius before ranks place strains measured) where
     pub gather-length : length ranks ≡ length before
@@ -143,7 +143,7 @@ module _ {xs : List ℕ} {metric wells count : ℕ} {order end : List ℕ} {plat
       pub gather-more : (distance code written : ℕ) (met : Met) → (place < countOf xs → distance ≤ radius)
           → (place < countOf xs → distance ≡ foundAt xs plate (getD (nodes (forestOf xs)) place 0) .distance)
           → code ≡ codeAt xs (getD order place 0) → written ≡ distance * 4294967296 + code → Meets xs plate radius (place + 1) met
-          → Gathered xs plate radius before (set ranks strains written) (met .place) (strains + 1) (measured + (1 + met .passed))
+          → Gathered xs plate radius before (set ranks strains written) (met .place) (strains + 1) (measured + (1 + met .measured))
       unfolding foundAt weighed
       gather-more distance code written met isNear isFar isCode isWritten m =
           transport (λ i. Gathered xs plate radius before (set ranks strains (is-rank i)) (met .place) (strains + 1) (is-measured i))
@@ -178,7 +178,7 @@ module _ {xs : List ℕ} {metric wells count : ℕ} {order end : List ℕ} {plat
           is-rank : rank (foundAt xs plate v) ≡ written
           is-rank = let c : code ≡ codeAt xs v = isCode ∙ ap (codeAt xs) (order-at w place low) in rw (isWritten, far, c)
 
-          is-measured : measured + 1 + met .passed ≡ measured + (1 + met .passed)
+          is-measured : measured + 1 + met .measured ≡ measured + (1 + met .measured)
           is-measured = omega arith
 
     pub gather-end : count ≤ place → Gathers xs plate radius before ranks (record { strains = strains; measured = measured })

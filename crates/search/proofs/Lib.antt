@@ -1,5 +1,6 @@
 -- The laws of the searches.
 pub mod Lists
+pub mod Only
 pub mod Scans
 pub mod Seeking
 pub mod Puts
@@ -12,4 +13,3 @@ pub mod Weighing
 pub mod Theorems
 pub mod Table
 pub mod Answers
-pub mod Examples

@@ -10,12 +10,12 @@ use Rattle.ranking.specs.Sort.{itself, sortBy}
 use Rattle.ranking.specs.Order.{Distinct}
 use Rattle.ranking.specs.Found.{Found, rank}
 use Rattle.ranking.specs.First.{firstK}
-use Rattle.ranking.proofs.Places.{mem-getD, getD-mem}
+use Rattle.ranking.proofs.Places.{mem-getD}
 use Rattle.ranking.proofs.Sorted.{sort-only-by-set}
 use Rattle.image.specs.Fields.{wellsOf, metricOf, countOf, codeAt}
 use Rattle.image.specs.Strains.{Strain, strainAt, strainsOf}
 use Rattle.image.specs.Library.{Library}
-use Rattle.image.proofs.Strains.{strains-length, strain-is}
+use Rattle.image.proofs.Strains.{strains-length, strain-is, strain-record}
 use Rattle.content.specs.Bytes.{Bytes}
 use Rattle.content.proofs.Filing.{library-strains}
 use Rattle.walk.specs.Forest.{nodes, forestOf}
@@ -30,15 +30,9 @@ nobody : Strain
 nobody = record { code = 0; profile = [] }
 
 module _ (xs : List ℕ) where
-  -- a record's strain is one of the library's, and each of these is a record's
+  -- a record's strain is one of the library's
   pub record-strain : (i : ℕ) → i < countOf xs → List·Memᴰ (strainAt xs i) (strainsOf xs)
   record-strain i h = Memᴰ·cast (sym (strain-is xs i nobody h)) (mem-getD (strainsOf xs) i nobody (omega (arith, strains-length xs)))
-
-  pub strain-record : {s : Strain} → List·Memᴰ s (strainsOf xs) → (i : ℕ) × (i < countOf xs) × (strainAt xs i ≡ s)
-  strain-record m =
-      let w = getD-mem nobody m in
-      let h : w .0 < countOf xs = omega (arith, w .1, strains-length xs) in
-      (w .0, h, sym (strain-is xs (w .0) nobody h) ∙ w .2)
 
 module _ {xs : List ℕ} (b : Bytes xs) (l : Library xs) where
   module _ (plate : List ℤ) where
@@ -84,6 +78,6 @@ module _ {xs : List ℕ} (b : Bytes xs) (l : Library xs) where
             Memᴰ·cast (sym (w .2) ∙ ap (weighed (metricOf xs) plate) (sym (r .2))) (Memᴰ·map (foundAt xs plate) (forest-all l (r .0) (r .1)))
 
     -- what the walk of the nearest search keeps in the end is what a scan of all strains gives
-    pub sitting-is-scan : length plate ≡ wellsOf xs → (k : ℕ) → 1 ≤ k → walk (foundAt xs plate) (reachAt xs) k (forestOf xs) [] ≡ nearest xs k plate
+    pub walk-is-scan : length plate ≡ wellsOf xs → (k : ℕ) → 1 ≤ k → walk (foundAt xs plate) (reachAt xs) k (forestOf xs) [] ≡ nearest xs k plate
     unfolding nearest firstK
-    sitting-is-scan fits k some = walk-first (foundAt xs plate) (reachAt xs) k (forest-reaching l plate fits) walked-coded some ∙ ap (take k) walked-ranked
+    walk-is-scan fits k some = walk-first (foundAt xs plate) (reachAt xs) k (forest-reaching l plate fits) walked-coded some ∙ ap (take k) walked-ranked

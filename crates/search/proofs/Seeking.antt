@@ -22,18 +22,19 @@ use Rattle.ranking.proofs.Running.{best-kept, best-running, bound-room, bound-f
 use Rattle.image.specs.Fields.{wellsOf, countOf, codeAt}
 use Rattle.image.specs.Library.{Library}
 use Rattle.content.specs.Bytes.{Bytes}
-use Rattle.walk.specs.Forest.{Forest, none, grow, nodes, after, forestOf}
+use Rattle.walk.specs.Forest.{Forest, none, grow, nodes, join, after, forestOf}
 use Rattle.walk.specs.Walk.{noFound, worst, walk, Passing}
 use Rattle.walk.specs.Weighed.{weighed, foundAt, reachAt}
-use Rattle.walk.specs.Laid.{Walking, Meets}
+use Rattle.walk.specs.LaidOut.{Walking, Meets}
 use Rattle.walk.specs.declared.next.Met.{Met}
 use Rattle.walk.proofs.Places.{Standing, standing, nodes-after}
 use Rattle.walk.proofs.Passing.{passing-none}
 use Rattle.walk.proofs.Forests.{forest-in, forest-length}
 use Rattle.walk.proofs.Steps.{record-in}
-use Rattle.walk.proofs.Walks.{Keeping, keeping-none, keeping-offered, walk-met, walk-passing}
+use Rattle.walk.proofs.Walks.{Keeping, keeping-none, keeping-offered, met-open, walk-into, walk-passing}
+use Rattle.walk.proofs.Going.{Leads, leads-none, leads-on, leads-into, leads-passing}
 use Rattle.search.specs.Ranked.{nearest}
-use Rattle.search.proofs.Scans.{found-code, sitting-is-scan}
+use Rattle.search.proofs.Scans.{found-code, walk-is-scan}
 
 -- a list of found strains, as a running list holds it
 pub record Keeps (k : ℕ) (best : Best) (kept : List Found) : Type 0 where
@@ -72,11 +73,16 @@ module _ (xs : List ℕ) (plate : List ℤ) (k : ℕ) where
   abbrev goes : Forest → List Found → List Found
   goes = walk (foundAt xs plate) (reachAt xs) k
 
-  -- the search stands at a place of the walk: what it has kept, walked on with the rest, is what walking all keeps
+  -- the search stands at a place of the walk, with what it has kept: walked on with the rest, that is what walking all keeps, and the steps that the
+  -- walk's `trace` has from here on are those that are left of all its steps
+  pub record Stands (rest : Forest) (kept : List Found) : Type 0 where
+    pub keepsAll : goes rest kept ≡ goes (forestOf xs) []
+    pub steps : Leads (foundAt xs plate) (reachAt xs) k (forestOf xs) [] rest kept
+
   pub record Seeking (best : Best) (met : Met) : Type 0 where
     pub kept : List Found
     pub keeps : Keeps k best kept
-    pub rest : goes (after (met .place) (forestOf xs)) kept ≡ goes (forestOf xs) []
+    pub stands : Stands (after (met .place) (forestOf xs)) kept
     pub place : met .place ≤ countOf xs
     pub near : met .place < countOf xs → length kept ≡ k → met .distance ≤ worst k kept
     pub far : met .place < countOf xs → met .distance ≡ foundAt xs plate (getD (nodes (forestOf xs)) (met .place) 0) .distance
@@ -97,18 +103,21 @@ module _ {xs : List ℕ} (b : Bytes xs) (l : Library xs) (plate : List ℤ) (k :
 
     -- a step of the walk passes by only what does not change the list
     passes-by : {from rest : Forest} {many : ℕ} → Passing (foundAt xs plate) (reachAt xs) bound from many rest → (1048560 ≤ bound → many ≡ 0)
-        → goes xs plate k from kept ≡ goes xs plate k rest kept
-    passes-by {from} {rest} p all = go (ℕ-discrete (length kept) k)
+        → Stands xs plate k from kept → Stands xs plate k rest kept
+    passes-by {from} {rest} p all at = go (ℕ-discrete (length kept) k)
       where
-        go : Dec (length kept ≡ k) → goes xs plate k from kept ≡ goes xs plate k rest kept
-        go (yes full) = walk-passing (foundAt xs plate) (reachAt xs) k bound kept p (h .keeping .ascends) full some (h .keeping .coded) (sym (bound-worst full))
-        go (no room) = ap (λ (f : Forest). goes xs plate k f kept) (passing-none p (all (omega (arith, bound-open (omega (arith, room, h .keeping .room))))))
+        go : Dec (length kept ≡ k) → Stands xs plate k rest kept
+        go (yes full) = record {
+          keepsAll = sym (walk-passing (foundAt xs plate) (reachAt xs) k bound kept p (h .keeping) full some (sym (bound-worst full))) ∙ at .keepsAll;
+          steps = leads-on _ _ k (at .steps) (leads-passing (foundAt xs plate) (reachAt xs) k bound kept p (h .keeping) full some (sym (bound-worst full)));
+        }
+        go (no room) = subst (λ (f : Forest). Stands xs plate k f kept) (passing-none p (all (omega (arith, bound-open (omega (arith, room, h .keeping .room)))))) at
 
-    pub seeks : (from : ℕ) (met : Met) → Meets xs plate bound from met → goes xs plate k (after from (forestOf xs)) kept ≡ goes xs plate k (forestOf xs) [] → Seeking xs plate k best met
-    seeks from met m r = record {
+    pub seeks : (from : ℕ) (met : Met) → Meets xs plate bound from met → Stands xs plate k (after from (forestOf xs)) kept → Seeking xs plate k best met
+    seeks from met m at = record {
       kept = kept;
       keeps = h;
-      rest = sym (passes-by (m .passing) (m .all)) ∙ r;
+      stands = passes-by (m .passing) (m .all) at;
       place = m .place;
       near = λ low full. omega (arith, bound-worst full, m .near low);
       far = m .far;
@@ -116,7 +125,8 @@ module _ {xs : List ℕ} (b : Bytes xs) (l : Library xs) (plate : List ℤ) (k :
 
   pub seeks-first : {best : Best} → best ≡ bestOf k [] → (met : Met) → Meets xs plate 4294967295 0 met → Seeking xs plate k best met
   unfolding after
-  seeks-first e met m = seeks (keeps-none e) 4294967295 (sym (bound-room k [] (omega arith))) 0 met m refl
+  seeks-first e met m =
+      seeks (keeps-none e) 4294967295 (sym (bound-room k [] (omega arith))) 0 met m (record { keepsAll = refl; steps = leads-none _ _ k (forestOf xs) [] })
 
   -- a strain is offered, and the search goes on behind it
   module _ {best : Best} {met : Met} (s : Seeking xs plate k best met) (low : met .place < countOf xs) (node code r : ℕ)
@@ -146,19 +156,21 @@ module _ {xs : List ℕ} (b : Bytes xs) (l : Library xs) (plate : List ℤ) (k :
       keeping = keeping-offered (foundAt xs plate node) (found-code b l plate node node-in) (s .keeps .keeping);
     }
 
-    pub walks-on : goes xs plate k (after (met .place + 1) (forestOf xs)) (offered rank k (foundAt xs plate node) (s .kept)) ≡ goes xs plate k (forestOf xs) []
+    pub walks-on : Stands xs plate k (after (met .place + 1) (forestOf xs)) (offered rank k (foundAt xs plate node) (s .kept))
     walks-on =
         let t : Standing (forestOf xs) (met .place) = standing (forestOf xs) (met .place) (omega (arith, forest-length l)) in
-        let stands : after (met .place) (forestOf xs) ≡ grow node (t .below) (t .behind) =
+        let here : after (met .place) (forestOf xs) ≡ grow node (t .below) (t .behind) =
         t .stands ∙ ap (λ (v : ℕ). grow v (t .below) (t .behind)) (sym isNode) in
         let near : length (s .kept) ≡ k → foundAt xs plate node .distance ≤ worst k (s .kept) =
         λ full. omega (arith, s .near low full, s .far low, ap (λ (i : ℕ). foundAt xs plate i .distance) isNode) in
+        let goesIn = met-open (foundAt xs plate) (reachAt xs) k node (s .kept) (s .keeps .keeping) some (found-code b l plate node node-in) near in
         let one : met .place + 1 ≡ suc (met .place) = omega arith in
-        ap (λ (f : Forest). goes xs plate k f (offered rank k (foundAt xs plate node) (s .kept))) (ap (λ (i : ℕ). after i (forestOf xs)) one ∙ t .stepped)
-        ∙ sym (walk-met (foundAt xs plate) (reachAt xs) k node (t .below) (t .behind) (s .kept) (s .keeps .keeping .ascends)
-        (s .keeps .keeping .room) (s .keeps .keeping .coded) some (found-code b l plate node node-in) near)
-        ∙ ap (λ (f : Forest). goes xs plate k f (s .kept)) (sym stands)
-        ∙ s .rest
+        let there : after (met .place + 1) (forestOf xs) ≡ join (t .below) (t .behind) = ap (λ (i : ℕ). after i (forestOf xs)) one ∙ t .stepped in
+        let at = rw here at (s .stands) in
+        rw there (record {
+          keepsAll = sym (walk-into (foundAt xs plate) (reachAt xs) k node (t .below) (t .behind) (s .kept) goesIn) ∙ at .keepsAll;
+          steps = leads-on _ _ k (at .steps) (leads-into (foundAt xs plate) (reachAt xs) k node (t .below) (t .behind) (s .kept) goesIn);
+        })
 
   -- where no record is left, the list stays
   walked-all : (rest : Forest) (kept : List Found) → nodes rest ≡ [] → goes xs plate k rest kept ≡ kept
@@ -172,8 +184,8 @@ module _ {xs : List ℕ} (b : Bytes xs) (l : Library xs) (plate : List ℤ) (k :
       s .keeps .isBest
       ∙ ap (λ (fs : List Found). bestOf k (map rank fs))
       (sym (walked-all (after (met .place) (forestOf xs)) (s .kept) (nodes-after (met .place) (forestOf xs) ∙ drop-of-length-le (nodes (forestOf xs)) {i = met .place} (omega (arith, forest-length l))))
-      ∙ s .rest
-      ∙ sitting-is-scan b l plate fits k some)
+      ∙ s .stands .keepsAll
+      ∙ walk-is-scan b l plate fits k some)
 
 -- the records that a step meets lie in the image
 module _ {xs : List ℕ} {metric wells count : ℕ} {order end : List ℕ} {plate : List ℤ} (w : Walking xs metric wells count order end plate) (place : ℕ) (h : place < count) where

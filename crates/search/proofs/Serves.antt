@@ -15,12 +15,12 @@ use Rattle.ranking.proofs.Ranks.{rank-distance, rank-code}
 use Rattle.image.specs.Fields.{wellsOf, metricOf, countOf}
 use Rattle.image.specs.Library.{Library}
 use Rattle.image.proofs.Sizes.{row-in}
+use Rattle.image.proofs.Runs.{sets-append}
 use Rattle.content.specs.Bytes.{Bytes}
-use Rattle.walk.specs.Laid.{Laid, Walking}
-use Rattle.walk.proofs.Lays.{sets-append}
+use Rattle.walk.specs.LaidOut.{LaidOut, Walking}
 use Rattle.search.specs.Ranked.{ranked, nearest, platesIn, plateAt, places, rows}
 use Rattle.search.specs.Calls.{codeIn, distanceIn, served}
-use Rattle.search.specs.Steps.{Seated}
+use Rattle.search.specs.Steps.{ToServe}
 use Rattle.search.proofs.Lists.{ranked-codes}
 use Rattle.search.proofs.Walked.{parts}
 
@@ -83,7 +83,7 @@ module _ (xs : List ℕ) (plates : List ℤ) (k : ℕ) (part : Found → ℕ) wh
       ap (λ (r : List ℕ). places k part (nearest xs k (plateAt xs plates j)) ++ r) (rows-last (suc j) many)
       ∙ rw e (sym (append-assoc (places k part (nearest xs k (plateAt xs plates j))) (rows xs k part plates (suc j) many) _))
 
-  rows-length : (j many : ℕ) → length (rows xs k part plates j many) ≡ many * k
+  pub rows-length : (j many : ℕ) → length (rows xs k part plates j many) ≡ many * k
   unfolding rows
   rows-length j zero = omega arith
   rows-length j (suc many) = simp length-append (omega (arith, nearest-places xs k (plateAt xs plates j) part, rows-length (suc j) many, row-next k many))
@@ -140,12 +140,12 @@ module _ {xs : List ℕ} (b : Bytes xs) (l : Library xs) (k : ℕ) (most : k ≤
     pub distance-places : {plate′ : List ℤ} → plate ≡ plate′ → map distanceOf (take k (best .ranks)) ≡ places k distanceIn (nearest xs k plate′)
     distance-places p = rw (← p, e) (best-places distanceOf distanceIn refl k (nearest xs k plate) (λ f m. rank-distance f (nearest-code m)) (nearest-few xs k plate) most)
 
-module _ {xs : List ℕ} {plates : List ℤ} {many k codes distances : ℕ} (s : Seated xs plates many k codes distances) where
-  pub seated-codes : (j : ℕ) → j < many → j * k + k ≤ codes
-  seated-codes j h = omega (arith, row-room k h, s .codesRoom)
+module _ {xs : List ℕ} {plates : List ℤ} {many k codes distances : ℕ} (s : ToServe xs plates many k codes distances) where
+  pub codes-room : (j : ℕ) → j < many → j * k + k ≤ codes
+  codes-room j h = omega (arith, row-room k h, s .codesRoom)
 
-  pub seated-distances : (j : ℕ) → j < many → j * k + k ≤ distances
-  seated-distances j h = omega (arith, row-room k h, s .distancesRoom)
+  pub distances-room : (j : ℕ) → j < many → j * k + k ≤ distances
+  distances-room j h = omega (arith, row-room k h, s .distancesRoom)
 
   pub places-small : (j : ℕ) → j < many → j * k + k ≤ 2048
   places-small j h =
@@ -153,9 +153,9 @@ module _ {xs : List ℕ} {plates : List ℤ} {many k codes distances : ℕ} (s :
       omega (arith, row-room k h, s .mostK)
 
   -- at the last plate
-  pub seated-served : (part : Found → ℕ) (lent slice : List ℕ) (j : ℕ) → many ≤ j → j ≤ many → many * k ≤ length lent → Serving xs plates k part lent j slice
+  pub all-served : (part : Found → ℕ) (lent slice : List ℕ) (j : ℕ) → many ≤ j → j ≤ many → many * k ≤ length lent → Serving xs plates k part lent j slice
       → slice ≡ served xs plates k part lent
-  seated-served part lent slice j high low room done =
+  all-served part lent slice j high low room done =
       let e : j ≡ platesIn xs plates = omega (arith, s .isMany) in
       serving-all xs plates k part lent done (omega (arith, ap (λ (n : ℕ). n * k) e, ap (λ (n : ℕ). n * k) (s .isMany)))
       ∙ ap (λ (n : ℕ). rows xs k part plates 0 n ++ drop (n * k) lent) e
@@ -174,7 +174,7 @@ module _ {xs : List ℕ} {plates : List ℤ} {many k codes distances : ℕ} (s :
     unfolding plateAt
     plate-is = let e : j * wells + wells - j * wells ≡ wells = omega arith in rw (e, isWells)
 
-    pub plate-walking : {metric count : ℕ} {order end : List ℕ} → metric ≡ metricOf xs → count ≡ countOf xs → Laid xs order end
+    pub plate-walking : {metric count : ℕ} {order end : List ℕ} → metric ≡ metricOf xs → count ≡ countOf xs → LaidOut xs order end
         → Walking xs metric wells count order end (take (j * wells + wells - j * wells) (drop (j * wells) plates))
     plate-walking isMetric isCount laid = record {
       library = s .library;

@@ -18,9 +18,9 @@ use Rattle.checker.specs.Tests.{outside}
 use Rattle.checker.proofs.Passed.{or-false, inside}
 use Rattle.image.specs.Answer.{given}
 use Rattle.search.specs.Answer.{handed}
-use Rattle.search.specs.Rules.{short, plateRules}
+use Rattle.search.specs.Rules.{sliceRules, plateRules}
 use Rattle.search.specs.Calls.{codeIn, distanceIn, served, sat}
-use Rattle.search.specs.Steps.{Seated}
+use Rattle.search.specs.Steps.{ToServe}
 use Rattle.search.proofs.Outcomes.{too-short, not-short, long-enough}
 
 not-other : (a b : ℕ) → not (eqb a b) ≡ false → a ≡ b
@@ -68,7 +68,7 @@ module _ (xs : List ℕ) (values k codes distances : ℕ) where
               omega (arith, few-neighbours .1)
 
           -- rule 16, and past it
-          to-room : judge (plateRules xs values k codes distances) ≡ judge (short (values / wellsOf xs * k) codes distances)
+          to-room : judge (plateRules xs values k codes distances) ≡ judge (sliceRules (values / wellsOf xs * k) codes distances)
           unfolding plateRules
           to-room = sym (pass _ _ _ _ (sym same-test ∙ fit) (pass _ _ _ _ (sym isOff ∙ few) refl))
 
@@ -87,12 +87,12 @@ module _ (xs : List ℕ) (values k codes distances : ℕ) where
             all-passed = to-room ∙ long-enough (values / wellsOf xs * k) codes distances (omega (arith, needed, room .0)) (omega (arith, needed, room .1))
 
 -- what a sitting is then given
-pub seated : {xs : List ℕ} (plates : List ℤ) (k codes distances : ℕ) → Library xs → {wells : ℕ} {far off : Bool} → wells ≡ wellsOf xs
+pub to-serve : {xs : List ℕ} (plates : List ℤ) (k codes distances : ℕ) → Library xs → {wells : ℕ} {far off : Bool} → wells ≡ wellsOf xs
     → far ≡ outside 1 64 (length plates / wells) → (not (eqb (length plates % wells) 0) || far) ≡ false
     → off ≡ outside 1 32 k → off ≡ false
     → (ltb codes (length plates / wells * k) || ltb distances (length plates / wells * k)) ≡ false
-    → Seated xs plates (length plates / wells) k codes distances
-seated {xs} plates k codes distances l {wells} isWells isFar fit isOff few enough = record {
+    → ToServe xs plates (length plates / wells) k codes distances
+to-serve {xs} plates k codes distances l {wells} isWells isFar fit isOff few enough = record {
   library = l;
   isMany = ap (λ (w : ℕ). length plates / w) isWells;
   values = as-plates xs (length plates) k codes distances isWells isFar fit ∙ ap (λ (w : ℕ). length plates / wells * w) isWells;

@@ -18,7 +18,7 @@ use Rattle.ranking.specs.Order.{Ascending, Distinct}
 use Rattle.ranking.specs.Found.{Found, rank}
 use Rattle.ranking.proofs.Places.{mem-getD, getD-mem}
 use Rattle.ranking.proofs.Ranks.{rank-nearer}
-use Rattle.ranking.proofs.Order.{ascending-front, ascending-below, distinct-front, distinct-apart}
+use Rattle.ranking.proofs.Order.{ascending-front, ascending-below, ascending-one, distinct-front, distinct-apart}
 use Rattle.ranking.proofs.Sorted.{sort-only-by-set}
 use Rattle.tree.specs.Tree.{Below, self, child}
 use Rattle.image.specs.Fields.{wellsOf, metricOf, countOf, rootOf, parentAt}
@@ -27,35 +27,25 @@ use Rattle.image.specs.Library.{treeOf, Library}
 use Rattle.image.specs.Verdict.{Verdict, accepted, refused, judge}
 use Rattle.image.proofs.Trees.{library-way}
 use Rattle.content.specs.Bytes.{Bytes}
-use Rattle.content.specs.Filing.{filingForm}
-use Rattle.content.proofs.Filing.{Agree, library-strains, file-accepted, file-wells, file-metric, file-same-strains}
+use Rattle.content.specs.Filing.{filingForm, Agree}
+use Rattle.content.proofs.Filing.{library-strains, file-accepted, file-wells, file-metric, file-same-strains}
 use Rattle.walk.specs.Walk.{noFound, worst, opens}
 use Rattle.walk.specs.Weighed.{weighed, foundAt, reachAt}
 use Rattle.walk.specs.Measured.{measuredIn, isMeasured, measuredFrom, measuredCount}
-use Rattle.search.specs.Ranked.{ranked, nearest, inside, near, platesIn, plateAt, places, rows}
-use Rattle.image.specs.Answer.{Answer, given, denied}
-use Rattle.search.specs.Answer.{Outcome, Counts, outcome}
+use Rattle.search.specs.Ranked.{ranked, nearest, inside, withinRadius, platesIn, plateAt, places, rows}
+use Rattle.image.specs.Answer.{given}
+use Rattle.search.specs.Answer.{Outcome, Counts, outcome, Alike}
 use Rattle.search.specs.Rules.{plateRules, sittingRules, radiusRules, withinRules}
 use Rattle.search.specs.Calls.{codeIn, distanceIn, served, sittingOf, listed, withinOf}
 use Rattle.search.proofs.Serves.{nearest-places}
 use Rattle.search.proofs.Lists.{inside-mem, mem-inside, inside-ascending, inside-distinct, inside-append, inside-all}
 use Rattle.search.proofs.Lists.{weighed-distinct, library-codes}
 use Rattle.search.proofs.Lists.{ranked-length, ranked-ascending, ranked-mem, mem-ranked, ranked-codes, ranked-distinct}
+use Rattle.search.proofs.Only.{first-only}
 use Rattle.search.proofs.Scans.{record-strain}
-use Rattle.search.proofs.Outcomes.{image-accepted}
+use Rattle.search.proofs.Outcomes.{granted, image-accepted}
 
 -- ---- the tree does not matter
-
--- how many strains an answer tells of, or the refusal
-abbrev pub strainsIn : Answer Counts → Answer ℕ
-strainsIn (given t) = given (t .strains)
-strainsIn (denied m p) = denied m p
-
--- two searches within a radius differ at most in how many profiles were measured
-pub record Alike (o p : Outcome Counts) : Type 0 where
-  pub answer : strainsIn (o .answer) ≡ strainsIn (p .answer)
-  pub codes : o .codes ≡ p .codes
-  pub distances : o .distances ≡ p .distances
 
 alike : (v : Verdict) {good good′ : Outcome Counts} (codes distances : List ℕ) → Alike good good′
     → Alike (outcome v good codes distances) (outcome v good′ codes distances)
@@ -81,12 +71,12 @@ module _ {xs ys : List ℕ} (b : Bytes xs) (lx : Library xs) (ly : Library ys) (
   same-count : countOf xs ≡ countOf ys
   same-count = sym (ranked-length xs []) ∙ ap length (same-ranked []) ∙ ranked-length ys []
 
-  same-nearest : (k : ℕ) (plate : List ℤ) → nearest xs k plate ≡ nearest ys k plate
+  pub same-nearest : (k : ℕ) (plate : List ℤ) → nearest xs k plate ≡ nearest ys k plate
   unfolding nearest
   same-nearest k plate = ap (take k) (same-ranked plate)
 
-  same-near : (radius : ℕ) (plate : List ℤ) → near xs radius plate ≡ near ys radius plate
-  unfolding near
+  same-near : (radius : ℕ) (plate : List ℤ) → withinRadius xs radius plate ≡ withinRadius ys radius plate
+  unfolding withinRadius
   same-near radius plate = ap (inside radius) (same-ranked plate)
 
   same-plate : (plates : List ℤ) (j : ℕ) → plateAt xs plates j ≡ plateAt ys plates j
@@ -143,7 +133,7 @@ module _ {xs ys : List ℕ} (b : Bytes xs) (lx : Library xs) (ly : Library ys) (
 
 -- a library and its filing form
 module _ (xs : List ℕ) (b : Bytes xs) (l : Library xs) where
-  filing-agrees : Agree xs (filingForm xs)
+  pub filing-agrees : Agree xs (filingForm xs)
   filing-agrees = record {
     wells = sym (file-wells xs b l);
     metric = sym (file-metric xs b l);
@@ -159,12 +149,6 @@ module _ (xs : List ℕ) (b : Bytes xs) (l : Library xs) where
   filing-same-within = tree-does-not-matter-within b l (file-accepted xs b l) filing-agrees
 
 -- ---- a plate's places depend on the library, the plate and k alone
-
-given-accepted : {Told : Type 0} (v : Verdict) (good : Outcome Told) (codes distances : List ℕ) (t : Told)
-    → outcome v good codes distances .answer ≡ given t → outcome v good codes distances ≡ good
-unfolding outcome
-given-accepted accepted good codes distances t e = refl
-given-accepted (refused m p) good codes distances t e = let z : _≡_ {A = ℕ} 0 1 = cc in absurd (omega arith)
 
 module _ (xs : List ℕ) (k : ℕ) (part : Found → ℕ) where
   -- plate j + i among the rows of the plates from j on
@@ -196,7 +180,7 @@ module _ (xs : List ℕ) (plates : List ℤ) (k : ℕ) (codes distances : List �
   sitting-is : sittingOf xs plates k codes distances
       ≡ record { answer = given (min k (countOf xs)); codes = served xs plates k codeIn codes; distances = served xs plates k distanceIn distances }
   unfolding sittingOf
-  sitting-is = given-accepted _ _ codes distances n e
+  sitting-is = granted _ _ codes distances n e .1
 
   pub plate-alone : (j : ℕ) → j < platesIn xs plates
       → take k (drop (j * k) (sittingOf xs plates k codes distances .codes)) ≡ places k codeIn (nearest xs k (plateAt xs plates j))
@@ -229,21 +213,28 @@ module _ (xs : List ℕ) (k : ℕ) (plates plates′ : List ℤ) (codes codes′
 module _ (xs : List ℕ) (radius : ℕ) (plate : List ℤ) where
   -- exactly the strains no further than the radius
   pub near-exactly : (f : Found)
-      → List·Memᴰ f (near xs radius plate) ↔ ((s : Strain) × List·Memᴰ s (strainsOf xs) × (f ≡ weighed (metricOf xs) plate s) × (f .distance ≤ radius))
-  unfolding near
+      → List·Memᴰ f (withinRadius xs radius plate) ↔ ((s : Strain) × List·Memᴰ s (strainsOf xs) × (f ≡ weighed (metricOf xs) plate s) × (f .distance ≤ radius))
+  unfolding withinRadius
   near-exactly f = (
     λ m. let i = inside-mem radius (ranked xs plate) m in let w = ranked-mem xs plate (i .0) in (w .0, w .1, w .2, i .1),
     λ w. mem-inside radius (ranked xs plate) (Memᴰ·cast (w .2) (mem-ranked xs plate (w .1))) (w .3),
   )
 
-  pub near-ascending : Ascending rank (near xs radius plate)
-  unfolding near
+  pub near-ascending : Ascending rank (withinRadius xs radius plate)
+  unfolding withinRadius
   near-ascending = inside-ascending radius (ranked-ascending xs plate)
 
   -- each once
-  pub near-distinct : Bytes xs → Library xs → Distinct rank (near xs radius plate)
-  unfolding near
+  pub near-distinct : Bytes xs → Library xs → Distinct rank (withinRadius xs radius plate)
+  unfolding withinRadius
   near-distinct b l = inside-distinct radius (ranked-distinct xs plate b l)
+
+  -- and no other list is that
+  pub near-only : Bytes xs → Library xs → {fs : List Found} → Ascending rank fs → Distinct rank fs
+      → ((f : Found) → List·Memᴰ f fs ↔ ((s : Strain) × List·Memᴰ s (strainsOf xs) × (f ≡ weighed (metricOf xs) plate s) × (f .distance ≤ radius)))
+      → fs ≡ withinRadius xs radius plate
+  near-only b l up d exactly =
+      ascending-one up near-ascending d (near-distinct b l) (λ f m. near-exactly f .1 (exactly f .0 m)) (λ f m. exactly f .1 (near-exactly f .0 m))
 
 -- ---- the k nearest
 
@@ -296,6 +287,14 @@ module _ (xs : List ℕ) (k : ℕ) (plate : List ℤ) where
           distinct-apart {key = rank} (nearest xs k plate) (drop k (ranked xs plate)) (rw front (ranked-distinct xs plate b l)) m n,
         )
 
+    -- and no other list is that
+    pub nearest-only : {fs : List Found} → Nearest xs k plate fs → fs ≡ nearest xs k plate
+    unfolding nearest
+    nearest-only {fs} n =
+        first-only k (ranked-ascending xs plate) (ranked-distinct xs plate b l) (n .order) (n .once) (n .many ∙ ap (min k) (sym (ranked-length xs plate)))
+        (λ f m. let w = n .strain f m in Memᴰ·cast (w .2) (mem-ranked xs plate (w .1)))
+        (λ g m out f h. let w = ranked-mem xs plate m in rw (w .2) (n .others (w .0) (w .1) (λ i. out (Memᴰ·cast (w .2) i)) f h))
+
 -- ---- the two searches agree
 
 -- the distance of the last of a list
@@ -320,8 +319,8 @@ furthest-most {fs} up fits f m =
 
 -- the k nearest are the first of those within the distance of the last of them
 pub searches-agree : (xs : List ℕ) → Bytes xs → Library xs → (k : ℕ) (plate : List ℤ)
-    → take (min k (countOf xs)) (near xs (furthest (nearest xs k plate)) plate) ≡ nearest xs k plate
-unfolding near
+    → take (min k (countOf xs)) (withinRadius xs (furthest (nearest xs k plate)) plate) ≡ nearest xs k plate
+unfolding withinRadius
 searches-agree xs b l k plate =
     let first = nearest xs k plate in
     let rest = drop k (ranked xs plate) in
@@ -342,11 +341,11 @@ module _ (xs : List ℕ) (b : Bytes xs) (l : Library xs) (plate : List ℤ) (p :
   unfolding weighed
   strain-within m = omega (arith, distance-most (metricOf xs) (wellsOf xs) (l .layout .wells .1) (library-strains xs b l .profile m) p)
 
-  pub within-all : near xs radius plate ≡ ranked xs plate
-  unfolding near
+  pub within-all : withinRadius xs radius plate ≡ ranked xs plate
+  unfolding withinRadius
   within-all = inside-all radius (ranked xs plate) (λ f m. let w = ranked-mem xs plate m in rw (w .2) (strain-within (w .1)))
 
-  pub within-all-count : length (near xs radius plate) ≡ countOf xs
+  pub within-all-count : length (withinRadius xs radius plate) ≡ countOf xs
   within-all-count = ap length within-all ∙ ranked-length xs plate
 
   opened : (v : ℕ) → v < countOf xs → opens (foundAt xs plate) (reachAt xs) radius v ≡ true

@@ -21,7 +21,7 @@ use Rattle.walk.specs.Forest.{nodes, forestOf}
 use Rattle.walk.specs.Walk.{within}
 use Rattle.walk.specs.Weighed.{foundAt, reachAt}
 use Rattle.walk.proofs.Measured.{measures-counted}
-use Rattle.search.specs.Ranked.{ranked, inside, near}
+use Rattle.search.specs.Ranked.{ranked, inside, withinRadius}
 use Rattle.search.specs.Calls.{codeIn, distanceIn, listed}
 use Rattle.search.specs.Steps.{Gathers, Lists}
 use Rattle.search.specs.declared.inside.Tally.{Tally}
@@ -60,22 +60,22 @@ module _ {xs : List ℕ} (plate : List ℤ) (b : Bytes xs) (l : Library xs) (rad
   met = within (foundAt xs plate) (reachAt xs) radius (nodes (forestOf xs))
 
   -- what it meets, in order of rank, is what a scan of all strains gives
-  pub within-is-scan : sortBy rank (map (foundAt xs plate) met) ≡ near xs radius plate
-  unfolding near
+  pub within-is-scan : sortBy rank (map (foundAt xs plate) met) ≡ withinRadius xs radius plate
+  unfolding withinRadius
   within-is-scan =
       ap (sortBy rank) (within-inside (foundAt xs plate) (reachAt xs) radius (nodes (forestOf xs)))
       ∙ sym (inside-sort radius (map (foundAt xs plate) (nodes (forestOf xs))))
       ∙ ap (inside radius) (walked-ranked b l plate)
 
-  ranks-sorted : sortBy itself (map (λ i. rank (foundAt xs plate i)) met) ≡ map rank (near xs radius plate)
+  ranks-sorted : sortBy itself (map (λ i. rank (foundAt xs plate i)) met) ≡ map rank (withinRadius xs radius plate)
   ranks-sorted =
       ap (sortBy itself) (sym (map-map rank (foundAt xs plate) met)) ∙ sym (sort-map rank itself (map (foundAt xs plate) met)) ∙ ap (map rank) within-is-scan
 
-  near-length : length (near xs radius plate) ≡ length met
+  near-length : length (withinRadius xs radius plate) ≡ length met
   near-length = sym (ap length within-is-scan) ∙ sort-length rank (map (foundAt xs plate) met) ∙ length-map met (foundAt xs plate)
 
-  near-code : {f : Found} → List·Memᴰ f (near xs radius plate) → f .code < 4294967296
-  unfolding near
+  near-code : {f : Found} → List·Memᴰ f (withinRadius xs radius plate) → f .code < 4294967296
+  unfolding withinRadius
   near-code m = ranked-codes xs plate b l (inside-mem radius (ranked xs plate) m .0)
 
   -- what is met, gathered, sorted and written
@@ -92,7 +92,7 @@ module _ {xs : List ℕ} (plate : List ℤ) (b : Bytes xs) (l : Library xs) (rad
     measured = g .measured ∙ measures-counted l radius plate;
   }
     where
-      many : tally .strains ≡ length (near xs radius plate)
+      many : tally .strains ≡ length (withinRadius xs radius plate)
       many = g .strains ∙ sym near-length
 
       front : take (tally .strains) ranks ≡ map (λ i. rank (foundAt xs plate i)) met
@@ -101,10 +101,10 @@ module _ {xs : List ℕ} (plate : List ℤ) (b : Bytes xs) (l : Library xs) (rad
           (take-at (map (λ i. rank (foundAt xs plate i)) met) (drop (tally .strains) before) (tally .strains)
           (length-map met (λ i. rank (foundAt xs plate i)) ∙ sym (g .strains)))
 
-      in-order : sorted ≡ map rank (near xs radius plate) ++ drop (tally .strains) ranks
+      in-order : sorted ≡ map rank (withinRadius xs radius plate) ++ drop (tally .strains) ranks
       in-order = isSorted ∙ ap (λ (ks : List ℕ). ks ++ drop (tally .strains) ranks) (ap (sortBy itself) front ∙ ranks-sorted)
 
-      listed-by : (part : ℕ → ℕ) (is : Found → ℕ) → ((f : Found) → List·Memᴰ f (near xs radius plate) → part (rank f) ≡ is f)
-          → (lent : List ℕ) → countOf xs ≤ length lent → sets lent 0 (map part (take (tally .strains) sorted)) ≡ listed (near xs radius plate) is lent
+      listed-by : (part : ℕ → ℕ) (is : Found → ℕ) → ((f : Found) → List·Memᴰ f (withinRadius xs radius plate) → part (rank f) ≡ is f)
+          → (lent : List ℕ) → countOf xs ≤ length lent → sets lent 0 (map part (take (tally .strains) sorted)) ≡ listed (withinRadius xs radius plate) is lent
       listed-by part is same lent room =
-          rw in-order (part-written part is (near xs radius plate) same many (drop (tally .strains) ranks) lent (omega (arith, g .few, many)))
+          rw in-order (part-written part is (withinRadius xs radius plate) same many (drop (tally .strains) ranks) lent (omega (arith, g .few, many)))

@@ -1,67 +1,39 @@
--- Every strain is weighed in every match: what the nearest search does with each record of a library, and why it may. Assumes nothing.
+-- Every strain is weighed in every match: what the nearest search does with each record of a library, and why it may.
+-- Two things are proved. The list that every sitting must hand back is the first k of all strains weighed: the sitting's contract says it, and names no
+-- tree (`SittingGives`, by `nearest` in specs/Ranked.antt). And the walk that the code goes by, `trace` in crates/walk/specs/Walk.antt, measures each
+-- record or passes it over for a reason that rules it out: that is said here. What a function measures cannot be seen from outside, so no contract names
+-- `trace`. That the code goes by it stands in the proof of `nearest::nearest`: its loop carries `Stands` (Seeking.antt), by which the steps that `trace`
+-- has from the loop's place on, with what is kept there, are those that are left of all steps. `seeks-first` is the loop's start, `walks-on` and `seeks`
+-- are its turn, and `sought` is its end. Assumes nothing.
 use mathlib.Core.Path.{_≡_, sym, ap, _∙_}
 use mathlib.Core.List.{List, [], map, List·Memᴰ, Memᴰ·of-map}
-use Prim.Native.Nat.{ℕ, suc, _+_, _≤_, _<_}
+use Prim.Native.Nat.{ℕ, _+_, _≤_}
 use native.Mathlib.Omega.{arith}
 use lib.IntN.{ℤ}
 use lib.ListN.{length, length-map}
-use Rattle.ranking.specs.Sort.{itself}
-use Rattle.ranking.specs.Order.{Distinct}
 use Rattle.ranking.specs.Found.{Found, rank}
-use Rattle.ranking.specs.First.{firstK}
 use Rattle.ranking.proofs.First.{offers-first}
-use Rattle.tree.specs.Tree.{Below}
 use Rattle.image.specs.Fields.{wellsOf, metricOf, countOf}
-use Rattle.image.specs.Library.{treeOf, Library}
+use Rattle.image.specs.Library.{Library}
+use Rattle.image.proofs.Strains.{strain-record}
 use Rattle.content.specs.Bytes.{Bytes}
 use Rattle.walk.specs.Forest.{nodes, forestOf}
-use Rattle.walk.specs.Walk.{worst, Step, measured, passed, recordOf, measuredOf, passedOf, walk, trace}
+use Rattle.walk.specs.Walk.{Step, measured, passed, recordOf, measuredOf, passedOf, walk}
 use Rattle.walk.specs.Weighed.{weighed, foundAt, reachAt}
 use Rattle.walk.proofs.Forests.{forest-distinct, forest-all, forest-in, forest-length, forest-below, forest-reaching}
 use Rattle.walk.proofs.Walks.{keeping-none}
 use Rattle.walk.proofs.Traces.{trace-all, steps-counted, trace-offers, trace-passed}
 use Rattle.search.specs.Ranked.{nearest}
-use Rattle.search.proofs.Scans.{strain-record, walked-coded, sitting-is-scan}
+use Rattle.search.specs.Weighing.{stepsOf, PassedOver, EveryStrainWeighed}
+use Rattle.search.proofs.Scans.{walked-coded, walk-is-scan}
 use Rattle.search.proofs.Theorems.{nearest-exactly}
-
--- what the search for a plate's k nearest strains does with the records of a library, in the order of its walk
-abbrev pub stepsOf : List ℕ → List ℤ → ℕ → List Step
-stepsOf xs plate k = trace (foundAt xs plate) (reachAt xs) k (forestOf xs) []
-
--- why record u may be passed over with all that hangs below record `under`, where these strains are kept by then
-pub record PassedOver (xs : List ℕ) (plate : List ℤ) (k under : ℕ) (kept : List Found) (u : ℕ) : Type 0 where
-  -- `under` itself is measured
-  pub isMeasured : List·Memᴰ (measured under) (stepsOf xs plate k)
-  -- u hangs below it in the library's tree, one generation down or more
-  pub hangs : (generations : ℕ) × Below (treeOf xs) under (suc generations) u
-  -- k strains are kept
-  pub full : length kept ≡ k
-  -- and `under` lies further from the plate than the worst of them and its own reach
-  pub further : worst k kept + reachAt xs under < foundAt xs plate under .distance
-  -- so u lies further from the plate than every one of the k nearest
-  pub beyond : (f : Found) → List·Memᴰ f (nearest xs k plate) → f .distance < foundAt xs plate u .distance
-
--- the sentence: each strain of the library is measured, or passed over for a reason that rules it out
-pub record EveryStrainWeighed (xs : List ℕ) (plate : List ℤ) (k : ℕ) : Type 0 where
-  -- each record of the library has its step
-  pub all : (i : ℕ) → i < countOf xs → List·Memᴰ i (map recordOf (stepsOf xs plate k))
-  -- nothing else has one
-  pub only : (i : ℕ) → List·Memᴰ i (map recordOf (stepsOf xs plate k)) → i < countOf xs
-  -- and each has one only
-  pub once : Distinct itself (map recordOf (stepsOf xs plate k))
-  -- so there are as many steps as strains
-  pub many : length (stepsOf xs plate k) ≡ countOf xs
-  -- a step measures its record, or passes it over, and then for these reasons
-  pub reason : (under : ℕ) (kept : List Found) (u : ℕ) → List·Memᴰ (passed under kept u) (stepsOf xs plate k) → PassedOver xs plate k under kept u
-  -- the k nearest strains are the first k of those measured
-  pub final : firstK rank k (map (foundAt xs plate) (measuredOf (stepsOf xs plate k))) ≡ nearest xs k plate
 
 module _ (xs : List ℕ) (b : Bytes xs) (l : Library xs) (plate : List ℤ) (fits : length plate ≡ wellsOf xs) (k : ℕ) (some : 1 ≤ k) where
   records : map recordOf (stepsOf xs plate k) ≡ nodes (forestOf xs)
   records = trace-all (foundAt xs plate) (reachAt xs) k (forestOf xs) []
 
   final-list : walk (foundAt xs plate) (reachAt xs) k (forestOf xs) [] ≡ nearest xs k plate
-  final-list = sitting-is-scan b l plate fits k some
+  final-list = walk-is-scan b l plate fits k some
 
   passed-over : (under : ℕ) (kept : List Found) (u : ℕ) → List·Memᴰ (passed under kept u) (stepsOf xs plate k) → PassedOver xs plate k under kept u
   passed-over under kept u m =

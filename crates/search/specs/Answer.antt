@@ -1,4 +1,5 @@
 -- What a search hands back. Assumes nothing.
+use mathlib.Core.Path.{_≡_}
 use mathlib.Core.List.{List}
 use Prim.Native.Nat.{ℕ}
 use Rattle.image.specs.Refusals.{numberOf, placeOf}
@@ -35,3 +36,14 @@ withinAnswer (Gathered.Refused r) = denied (numberOf r) (placeOf r)
 -- an answer, and both slices
 abbrev pub handed : {Told : Type 0} → Answer Told → (codes distances : List ℕ) → Outcome Told
 handed answer codes distances = record { answer = answer; codes = codes; distances = distances }
+
+-- how many strains an answer tells of, or the refusal
+abbrev pub strainsIn : Answer Counts → Answer ℕ
+strainsIn (given t) = given (t .strains)
+strainsIn (denied m p) = denied m p
+
+-- two searches within a radius differ at most in how many profiles were measured
+pub record Alike (o p : Outcome Counts) : Type 0 where
+  pub answer : strainsIn (o .answer) ≡ strainsIn (p .answer)
+  pub codes : o .codes ≡ p .codes
+  pub distances : o .distances ≡ p .distances

@@ -5,3 +5,4 @@ pub mod Rules
 pub mod Calls
 pub mod Table
 pub mod Steps
+pub mod Weighing

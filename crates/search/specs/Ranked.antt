@@ -25,8 +25,8 @@ inside radius [] = []
 inside radius (f ∷ fs) = cond (leb (f .distance) radius) (f ∷ inside radius fs) (inside radius fs)
 
 -- all within a radius
-unfoldable pub near : List ℕ → ℕ → List ℤ → List Found
-near xs radius plate = inside radius (ranked xs plate)
+unfoldable pub withinRadius : List ℕ → ℕ → List ℤ → List Found
+withinRadius xs radius plate = inside radius (ranked xs plate)
 
 -- how many plates, and plate j: each takes as many values as the library has wells
 abbrev pub platesIn : List ℕ → List ℤ → ℕ

@@ -11,12 +11,12 @@ use Rattle.walk.specs.Forest.{nodes, forestOf}
 use Rattle.walk.specs.Walk.{within, measures}
 use Rattle.walk.specs.Weighed.{foundAt, reachAt}
 use Rattle.walk.specs.Measured.{measuredCount}
-use Rattle.search.specs.Ranked.{near, platesIn}
+use Rattle.search.specs.Ranked.{withinRadius, platesIn}
 use Rattle.search.specs.Calls.{codeIn, distanceIn, listed}
 use Rattle.search.specs.declared.inside.Tally.{Tally}
 
 -- what a sitting that is not refused is given
-pub record Seated (xs : List ℕ) (plates : List ℤ) (many k codes distances : ℕ) : Type 0 where
+pub record ToServe (xs : List ℕ) (plates : List ℤ) (many k codes distances : ℕ) : Type 0 where
   pub library : Library xs
   pub isMany : many ≡ platesIn xs plates
   pub values : length plates ≡ many * wellsOf xs
@@ -35,7 +35,7 @@ pub record Gathers (xs : List ℕ) (plate : List ℤ) (radius : ℕ) (before aft
 
 -- the strains inside the radius are written, and counted
 pub record Lists (xs : List ℕ) (plate : List ℤ) (radius : ℕ) (codes distances codes′ distances′ : List ℕ) (tally : Tally) : Type 0 where
-  pub isCodes : codes′ ≡ listed (near xs radius plate) codeIn codes
-  pub isDistances : distances′ ≡ listed (near xs radius plate) distanceIn distances
-  pub strains : tally .strains ≡ length (near xs radius plate)
+  pub isCodes : codes′ ≡ listed (withinRadius xs radius plate) codeIn codes
+  pub isDistances : distances′ ≡ listed (withinRadius xs radius plate) distanceIn distances
+  pub strains : tally .strains ≡ length (withinRadius xs radius plate)
   pub measured : tally .measured ≡ measuredCount xs radius plate

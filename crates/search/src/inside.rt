@@ -5,7 +5,7 @@ ghost use Prim.Native.Nat.{_≤_};
 ghost use lib.ListN.{length};
 ghost use Rattle.image.specs.Fields.{wellsOf, metricOf, countOf};
 ghost use Rattle.image.specs.Library.{Library};
-ghost use Rattle.walk.specs.Laid.{Walking};
+ghost use Rattle.walk.specs.LaidOut.{Walking};
 ghost use Rattle.search.specs.Steps.{Gathers, Lists};
 
 pub struct Tally {
@@ -31,7 +31,7 @@ pub fn gather(
 {
     let mut met = walk::next::next(image, metric, wells, count, order, end, plate, radius, 0);
     let mut strains = 0;
-    let mut measured = met.passed;
+    let mut measured = met.measured;
     while met.place < count {
         let place = met.place;
         let code = image::node::code(image, order[place] as usize);
@@ -48,7 +48,7 @@ pub fn gather(
             radius,
             place + 1,
         );
-        measured += 1 + met.passed;
+        measured += 1 + met.measured;
     }
     Tally { strains, measured }
 }

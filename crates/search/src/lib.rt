@@ -1,8 +1,6 @@
 // The searches: the nearest strains for a sitting of plates, and all strains within a radius of a plate. Each checks the library once, and
 // answers with what it found or with a refusal, and then nothing was written.
-ghost use mathlib.Core.Path.{_≡_};
-ghost use Rattle.search.specs.Answer.{handed, sittingAnswer, withinAnswer};
-ghost use Rattle.search.specs.Calls.{sittingOf, withinOf};
+ghost use Rattle.search.specs.Calls.{SittingGives, WithinGives};
 use checker::Checked;
 use image::refusal::Refusal;
 
@@ -31,7 +29,7 @@ pub fn sitting(
     codes: &mut [u32],
     distances: &mut [u32],
 ) -> Served
-    ensures { λ r. ⌜ handed (sittingAnswer r) (now (codes .exit)) (now (distances .exit)) ≡ sittingOf (now (image .entry)) (now (plates .entry)) k (now (codes .entry)) (now (distances .entry)) ⌝ }
+    ensures { λ r. ⌜ SittingGives (now (image .entry)) (now (plates .entry)) k (now (codes .entry)) (now (distances .entry)) r (now (codes .exit)) (now (distances .exit)) ⌝ }
 {
     match checker::check(image) {
         Checked::Refused(refusal) => Served::Refused(refusal),
@@ -47,7 +45,7 @@ pub fn within(
     codes: &mut [u32],
     distances: &mut [u32],
 ) -> Gathered
-    ensures { λ r. ⌜ handed (withinAnswer r) (now (codes .exit)) (now (distances .exit)) ≡ withinOf (now (image .entry)) (now (plate .entry)) radius (now (codes .entry)) (now (distances .entry)) ⌝ }
+    ensures { λ r. ⌜ WithinGives (now (image .entry)) (now (plate .entry)) radius (now (codes .entry)) (now (distances .entry)) r (now (codes .exit)) (now (distances .exit)) ⌝ }
 {
     match checker::check(image) {
         Checked::Refused(refusal) => Gathered::Refused(refusal),

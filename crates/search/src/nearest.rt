@@ -4,7 +4,7 @@ ghost use mathlib.Core.List.{map};
 ghost use Prim.Native.Nat.{_≤_};
 ghost use Rattle.ranking.specs.Found.{rank};
 ghost use Rattle.ranking.specs.Best.{bestOf};
-ghost use Rattle.walk.specs.Laid.{Walking};
+ghost use Rattle.walk.specs.LaidOut.{Walking};
 ghost use Rattle.search.specs.Ranked.{nearest as nearestOf};
 use ranking::best::Best;
 

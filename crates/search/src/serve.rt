@@ -2,7 +2,7 @@
 ghost use mathlib.Core.Path.{_≡_};
 ghost use lib.ListN.{length};
 ghost use Rattle.search.specs.Calls.{served, codeIn, distanceIn};
-ghost use Rattle.search.specs.Steps.{Seated};
+ghost use Rattle.search.specs.Steps.{ToServe};
 
 pub fn serve(
     image: &[u8],
@@ -12,7 +12,7 @@ pub fn serve(
     codes: &mut [u32],
     distances: &mut [u32],
 )
-    requires { ⌜ Seated (now image) (now plates) many k (length (now codes)) (length (now distances)) ⌝ }
+    requires { ⌜ ToServe (now image) (now plates) many k (length (now codes)) (length (now distances)) ⌝ }
     ensures codes { λ _. ⌜ now (codes .exit) ≡ served (now (image .entry)) (now (plates .entry)) k codeIn (now (codes .entry)) ⌝ }
     ensures distances { λ _. ⌜ now (distances .exit) ≡ served (now (image .entry)) (now (plates .entry)) k distanceIn (now (distances .entry)) ⌝ }
 {

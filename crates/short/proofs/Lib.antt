@@ -2,3 +2,4 @@
 pub mod Turns
 pub mod Serves
 pub mod Theorems
+pub mod Answers

@@ -6,7 +6,7 @@ use native.Mathlib.Omega.{arith}
 use lib.ListN.{length, take, getD}
 use lib.Seq.{sets, take-all, take-length}
 use Rattle.content.specs.Bytes.{bytes32}
-use Rattle.writer.proofs.Stores.{sets-on}
+use Rattle.image.proofs.Runs.{sets-on}
 use Rattle.short.specs.Short.{byTurns}
 
 pub turns-length : (i : ℕ) (codes distances : List ℕ) → i ≤ length codes → i ≤ length distances → length (byTurns (take i codes) (take i distances)) ≡ 8 * i

@@ -37,11 +37,15 @@ unfoldable pub shortOf : (image plate out : List ℕ) → Outcome
 shortOf xs plate out = outcome (judge (shortRules xs (length plate) (length out))) (fiveOf (nearest xs 5 (wellsAt plate 0 (wellsOf xs)))) out
 
 -- what is returned: the refusal number, or 0
-abbrev pub numberIn : Answer ℕ → ℕ
-numberIn (given n) = 0
-numberIn (denied number place) = number
+abbrev pub refusalNumber : Answer ℕ → ℕ
+refusalNumber (given n) = 0
+refusalNumber (denied number place) = number
 
 -- what is handed back: the number, and the whole of what was lent to be written
 pub record Numbered (o : Outcome) (number : ℕ) (out : List ℕ) : Type 0 where
-  pub isNumber : number ≡ numberIn (o .answer)
+  pub isNumber : number ≡ refusalNumber (o .answer)
   pub isOut : out ≡ o .buffer
+
+-- the contract
+abbrev pub ShortGives : (image plate out : List ℕ) → (number : ℕ) → (out′ : List ℕ) → Type 0
+ShortGives image plate out number out′ = Numbered (shortOf image plate out) number out′

@@ -9,7 +9,7 @@ ghost use Rattle.image.specs.Library.{Library};
 ghost use Rattle.image.specs.Verdict.{judge};
 ghost use Rattle.image.specs.Answer.{outcome};
 ghost use Rattle.search.specs.Ranked.{nearest};
-ghost use Rattle.short.specs.Short.{plateRules, byTurns, fiveOf, shortOf, Numbered};
+ghost use Rattle.short.specs.Short.{plateRules, byTurns, fiveOf, Numbered, ShortGives};
 use checker::Checked;
 
 // Codes and distances by turns.
@@ -46,7 +46,7 @@ fn serve(image: &[u8], plate: &[u8], out: &mut [u8]) -> u32
 
 // The result is 0 or the refusal number.
 pub fn short(image: &[u8], plate: &[u8], out: &mut [u8]) -> u32
-    ensures { λ r. ⌜ Numbered (shortOf (now (image .entry)) (now (plate .entry)) (now (out .entry))) r (now (out .exit)) ⌝ }
+    ensures { λ r. ⌜ ShortGives (now (image .entry)) (now (plate .entry)) (now (out .entry)) r (now (out .exit)) ⌝ }
 {
     match checker::check(image) {
         Checked::Refused(refusal) => image::refusal::number(refusal) as u32,

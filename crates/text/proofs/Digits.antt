@@ -4,7 +4,7 @@ use mathlib.Core.List.{List, [], _∷_}
 use Prim.Native.Nat.{ℕ, _+_, _/_, _%_, _≤_, _<_}
 use native.Mathlib.Omega.{arith}
 use lib.ListN.{length, set, length-append}
-use Rattle.writer.proofs.Stores.{sets-on}
+use Rattle.image.proofs.Runs.{sets-on}
 use Rattle.text.specs.Decimal.{digit, decimal}
 use Rattle.text.specs.Written.{Written}
 use Rattle.text.proofs.Decimals.{decimal-one, decimal-step}

@@ -11,5 +11,4 @@ pub mod Calls
 pub mod Theorems
 pub mod Whole
 pub mod Answers
-pub mod Examples
 pub mod Table

@@ -1,17 +1,22 @@
 -- What those who list libraries may rely on. Assumes nothing.
-use mathlib.Core.Path.{_≡_, refl, sym, _∙_}
+use mathlib.Core.Path.{_≡_, refl, sym, _∙_, ap}
+use mathlib.Core.Logic.{inr}
 use mathlib.Core.List.{List, _++_}
-use Prim.Native.Nat.{ℕ, _≤_}
+use Prim.Native.Nat.{ℕ, _≤_, _<_}
 use native.Mathlib.Omega.{arith}
-use lib.ListN.{length, drop}
+use lib.ListN.{length, take, drop, length-take}
+use lib.Seq.{take-all}
 use borrow.Author.Tests.{ltb-false}
+use Rattle.ranking.proofs.Insert.{split}
 use Rattle.image.specs.declared.refusal.Place.{Place}
 use Rattle.image.specs.Library.{Library}
-use Rattle.image.specs.Verdict.{Verdict, accepted, refused, judge}
+use Rattle.image.specs.Verdict.{Verdict, accepted, refused}
 use Rattle.image.specs.Answer.{given, denied, outcome}
 use Rattle.image.proofs.Outcomes.{gave, denies}
-use Rattle.image.proofs.Verdicts.{past, when-none, judge-both}
+use Rattle.image.proofs.Tests.{told-true}
+use Rattle.image.proofs.Verdicts.{hit, past, when-none, judge-both}
 use Rattle.checker.specs.Check.{checkRules, checkOf}
+use Rattle.checker.proofs.Table.{tells-outside}
 use Rattle.checker.proofs.Accepted.{accepted-exactly}
 use Rattle.content.specs.Bytes.{Bytes}
 use Rattle.text.specs.Listing.{listing, refusedLine}
@@ -35,11 +40,6 @@ module _ (xs room : List ℕ) where
       let parts = judge-both (checkRules xs) _ (gave _ _ _ n e .verdict) in
       (accepted-exactly xs .0 (parts .0), ltb-false _ _ (when-none _ (past _ _ _ (parts .1) .0)))
 
-  -- a list that is refused leaves the room as it was
-  pub refused-leaves : (m : ℕ) (p : Place) → listOf xs room .answer ≡ denied m p → listOf xs room .buffer ≡ room
-  unfolding listOf outcome
-  refused-leaves m p e = rw (denies (judge (listRules xs (length room))) (listing xs) room m p e) refl
-
 -- ---- what is printed
 
 pub printed-listing : (xs : List ℕ) → Library xs → printed xs ≡ listing xs
@@ -51,12 +51,23 @@ unfolding printed printedBy
 printed-refusal xs m p e = rw e refl
 
 -- it fits its page
-pub printed-fits : (xs : List ℕ) → Bytes xs → length (printed xs) ≤ 147456
-printed-fits xs b = go (checkOf xs) refl
+pub page-fits : (xs : List ℕ) → Bytes xs → length (printed xs) ≤ 147456
+page-fits xs b = go (checkOf xs) refl
   where
     go : (v : Verdict) → checkOf xs ≡ v → length (printed xs) ≤ 147456
     go accepted e = let l = accepted-exactly xs .0 e in rw (printed-listing xs l) (listing-fits b l)
     go (refused m p) e = rw (printed-refusal xs m p e) (omega (arith, refused-fits m))
+
+-- what is longer than an image may be is refused, and so is its front of one byte more: the program need read no more than that
+too-long : (xs : List ℕ) → 40976 < length xs → printed xs ≡ refusedLine 1
+unfolding checkOf checkRules
+too-long xs h = printed-refusal xs 1 Place.None (sym (hit _ _ _ _ (told-true (tells-outside 16 40976 (length xs)) (inr h)) refl))
+
+pub printed-front : (xs : List ℕ) → printed (take 40977 xs) ≡ printed xs
+printed-front xs =
+    split 40976 (length xs)
+    (λ h. too-long (take 40977 xs) (omega (arith, length-take 40977 xs)) ∙ sym (too-long xs h))
+    (λ h. ap printed (take-all 40977 xs (omega arith)))
 
 -- list and print agree
 module _ (xs room : List ℕ) where

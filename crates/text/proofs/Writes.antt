@@ -5,7 +5,7 @@ use Prim.Native.Nat.{ℕ, _+_, _≤_, _<_}
 use native.Mathlib.Omega.{arith}
 use lib.ListN.{length, set, drop, length-append}
 use lib.Seq.{sets, sets-eq, length-sets}
-use Rattle.writer.proofs.Stores.{sets-append}
+use Rattle.image.proofs.Runs.{sets-append}
 use Rattle.text.specs.Written.{Written}
 
 pub written-length : {room : List ℕ} {at : ℕ} {text : List ℕ} {end : ℕ} {room′ : List ℕ} → Written room at text end room′ → length room′ ≡ length room

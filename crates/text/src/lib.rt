@@ -1,8 +1,5 @@
 // A library as text: its listing, and what the listing program prints of any bytes.
-ghost use mathlib.Core.Path.{_≡_};
-ghost use mathlib.Core.List.{_++_};
-ghost use lib.ListN.{length, drop};
-ghost use Rattle.text.specs.Calls.{listOf, handed, printed};
+ghost use Rattle.text.specs.Calls.{ListGives, PrintGives};
 use checker::Checked;
 use image::refusal::Place;
 use image::refusal::Refusal;
@@ -19,7 +16,7 @@ pub enum Listed {
 
 // The listing of a library, in the front of the room. Every listing fits into 147456 bytes.
 pub fn list(image: &[u8], room: &mut [u8]) -> Listed
-    ensures { λ r. ⌜ handed r (now (room .exit)) ≡ listOf (now (image .entry)) (now (room .entry)) ⌝ }
+    ensures { λ r. ⌜ ListGives (now (image .entry)) (now (room .entry)) r (now (room .exit)) ⌝ }
 {
     match checker::check(image) {
         Checked::Refused(refusal) => Listed::Refused(refusal),
@@ -34,7 +31,7 @@ pub fn list(image: &[u8], room: &mut [u8]) -> Listed
 
 // What the listing program prints: the listing, or `refused` and the number. The result is how many bytes of the page it takes.
 pub fn print(image: &[u8], page: &mut [u8; 147456]) -> usize
-    ensures { λ r. ⌜ (r ≡ length (printed (now (image .entry)))) × (now (page .exit) ≡ printed (now (image .entry)) ++ drop r (now (page .entry))) ⌝ }
+    ensures { λ r. ⌜ PrintGives (now (image .entry)) (now (page .entry)) r (now (page .exit)) ⌝ }
 {
     match list(image, page) {
         Listed::Length(length) => length,

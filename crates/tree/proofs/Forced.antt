@@ -1,12 +1,14 @@
--- What the definition forces: a node's level, and that no two nodes have equal profiles. Assumes nothing.
-use mathlib.Core.Path.{_≡_, ap, subst}
+-- What the definition forces: a node's level, that none but a lone root is below -1, and that no two nodes have equal profiles. Assumes nothing.
+use mathlib.Core.Path.{_≡_, sym, _∙_, ap, subst}
 use mathlib.Core.Logic.{_≢_}
 use Prim.Native.Nat.{ℕ, _<_}
+use native.Mathlib.Decide.{ℕ-discrete}
 use native.Mathlib.Omega.{arith}
-use lib.Signed.{_<ℤ_, ≤ℤ-refl, <ℤ-irrefl}
+use lib.IntN.{negsuc}
+use lib.Signed.{_≤ℤ_, _<ℤ_, ≤ℤ-refl, <ℤ-irrefl}
 use Rattle.profile.specs.Level.{Fitting, lower, fittingLevel}
-use Rattle.profile.proofs.Levels.{more-than, fitting-positive, fitting-exactly}
-use Rattle.profile.proofs.Signs.{lt-parts, parts-le}
+use Rattle.profile.proofs.Levels.{more-than, byte-least, fitting-positive, fitting-of, fitting-exactly}
+use Rattle.profile.proofs.Signs.{le-parts, lt-parts, parts-le, suc-parts}
 use Rattle.tree.specs.Tree.{Tree, Other, CoverTree}
 use Rattle.tree.proofs.Separation.{pairs-of-sets}
 
@@ -24,6 +26,19 @@ module _ {X : Type 0} {dist : X → X → ℕ} {n : ℕ} {t : Tree X} (v : Cover
   -- so a node's level is the fitting level of the distance to its parent: only the root's is free
   pub level-forced : (q : ℕ) → Other t q → t .level q ≡ fittingLevel (dist (t .profile (t .parent q)) (t .profile q))
   level-forced q o = fitting-exactly (dist (t .profile (t .parent q)) (t .profile q)) (t .level q) (fitting-positive (level-fits q o)) .0 (level-fits q o)
+
+  -- distances are whole, so where there is another node, a level is -1 at least
+  pub least-level : (p q : ℕ) → t .Node p → t .Node q → p ≢ q → negsuc 0 ≤ℤ t .level q
+  least-level p q hp hq ne = go (ℕ-discrete q (t .root))
+    where
+      other : (r : ℕ) → Other t r → negsuc 0 ≤ℤ t .level r
+      other r o = let b = fitting-of (level-fits r o) in rw (b .1) (byte-least (b .0))
+
+      go : Dec (q ≡ t .root) → negsuc 0 ≤ℤ t .level q
+      go (yes e) =
+          let o : Other t p = record { node = hp; notRoot = λ i. ne (i ∙ sym e) } in
+          rw e (parts-le (negsuc 0) (t .level (t .root)) (omega (arith, le-parts (other p o), le-parts (v .root .above p o), suc-parts (t .level p))))
+      go (no nr) = other q (record { node = hq; notRoot = nr })
 
   -- two nodes lie apart
   pub nodes-apart : (p q : ℕ) → t .Node p → t .Node q → p ≢ q → 0 < dist (t .profile p) (t .profile q)

@@ -9,8 +9,8 @@ use native.Mathlib.Omega.{arith}
 use lib.Dec.{T}
 use lib.IntN.{ℤ, sucℤ}
 use lib.Signed.{leZ, _≤ℤ_, _<ℤ_}
-use Rattle.profile.specs.Level.{_>2^_, _≤2^_, Fitting, lower, coverLimit}
-use Rattle.profile.proofs.Levels.{more-than, at-most-level, cover-mono, cover-lower, fitting-is, fitting-above}
+use Rattle.profile.specs.Level.{_≤2^_, Fitting, lower, coverLimit}
+use Rattle.profile.proofs.Levels.{more-than, at-most-level, cover-mono, cover-lower, fitting-is, fitting-above, over-fitting}
 use Rattle.profile.proofs.Signs.{le-no, le-parts, parts-le, lt-parts, parts-lt, suc-parts}
 use Rattle.tree.specs.Tree.{Tree, Other, CoverCondition, PairsApart, CoverTree}
 use Rattle.tree.specs.Grow.{higher, CanTake, NearestTaker, Grown}
@@ -24,14 +24,6 @@ higher-le a b = go (leZ a b) refl
     go : (t : Bool) → leZ a b ≡ t → (a ≤ℤ cond t b a) × (b ≤ℤ cond t b a)
     go true e = (record { le = subst T (sym e) tt }, parts-le b b (omega arith))
     go false e = (parts-le a a (omega arith), parts-le b a (omega (arith, le-no a b e)))
-
--- a distance beyond 2 ^ e and within 2 ^ m: e is below m
-between : (d : ℕ) (e m : ℤ) → d >2^ e → d ≤2^ m → e <ℤ m
-between d e m h k = go (leZ m e) refl
-  where
-    go : (b : Bool) → leZ m e ≡ b → e <ℤ m
-    go true r = absurd (omega (arith, more-than d e .0 h, at-most-level d m .0 k, cover-mono {a = m} {b = e} (record { le = subst T (sym r) tt })))
-    go false r = parts-lt e m (omega (arith, le-no m e r))
 
 module _ {X : Type 0} {dist : X → X → ℕ} (symmetric : (x y : X) → dist x y ≡ dist y x) {n : ℕ} {t t′ : Tree X} {x : X} {v k : ℕ}
     (tree : CoverTree dist n t) (g : Grown dist t t′ x v k) (chosen : NearestTaker dist t x v) (away : 0 < dist (t .profile v) x) where
@@ -58,7 +50,7 @@ module _ {X : Type 0} {dist : X → X → ℕ} (symmetric : (x y : X) → dist x
           parts-lt (t′ .level k) (t′ .level v)
           (rw (e, g .rootLevel) (omega (arith, le-parts (higher-le (t .level (t .root)) (sucℤ (t′ .level k)) .1), suc-parts (t′ .level k))))
       go (inr h) =
-          let b = between (dist (t .profile v) x) (t′ .level k) (t .level v) (fits .above) h in
+          let b : t′ .level k <ℤ t .level v = rw (g .newLevel) (over-fitting (dist (t .profile v) x) (t .level v) away .0 h) in
           parts-lt (t′ .level k) (t′ .level v) (omega (arith, lt-parts b, le-parts (level-up v (chosen .taker .node))))
 
   grown-cover : CoverCondition dist t′

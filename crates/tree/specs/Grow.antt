@@ -25,10 +25,8 @@ pub record NearestTaker {X : Type 0} (dist : X → X → ℕ) (t : Tree X) (x : 
 -- t′ is t with one node more, number k, at x under v. Its level is the fitting level of the distance; the root's level becomes the higher of
 -- its old one and the new level plus 1; all other levels and parents stay
 pub record Grown {X : Type 0} (dist : X → X → ℕ) (t t′ : Tree X) (x : X) (v k : ℕ) : Type 0 where
-  pub isNew : t .Node k → ⊥
   pub nodes : (q : ℕ) → t′ .Node q → t .Node q ⊎ (q ≡ k)
   pub olds : (q : ℕ) → t .Node q → t′ .Node q
-  pub new : t′ .Node k
   pub root : t′ .root ≡ t .root
   pub profile : (q : ℕ) → t .Node q → t′ .profile q ≡ t .profile q
   pub newProfile : t′ .profile k ≡ x

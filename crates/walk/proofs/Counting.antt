@@ -1,7 +1,7 @@
--- Lists that hold just the numbers below n, each once: their length, and how many of their numbers a test holds of. Assumes nothing.
+-- The numbers of a list that a test holds of, and how many they are; lists that hold just the numbers below n, each once. Assumes nothing.
 use mathlib.Core.Path.{_≡_, refl, sym, ap, _∙_}
 use mathlib.Core.Bool.{Bool, true, false, cond}
-use mathlib.Core.List.{List, [], _∷_, _++_, List·Memᴰ, Memᴰ·cast}
+use mathlib.Core.List.{List, [], _∷_, _++_, List·Memᴰ, List·Memᴰ·head, List·Memᴰ·tail, List·Memᴰ·not-nil, Memᴰ·cast}
 use Prim.Native.Nat.{ℕ, _+_, _<_}
 use native.Mathlib.Omega.{arith}
 use lib.Dec.{ltb}
@@ -19,7 +19,7 @@ module _ (test : ℕ → Bool) where
   counted [] = 0
   counted (i ∷ is) = cond (test i) 1 0 + counted is
 
-  pub counted-append : (is js : List ℕ) → counted (is ++ js) ≡ counted is + counted js
+  counted-append : (is js : List ℕ) → counted (is ++ js) ≡ counted is + counted js
   unfolding counted
   counted-append [] js = omega arith
   counted-append (i ∷ is) js = let e = counted-append is js in omega arith
@@ -41,6 +41,60 @@ module _ (test : ℕ → Bool) where
       by-last (λ (is : List ℕ). counted (sortBy itself is) ≡ counted is)
       (λ is i e. rw sort-append (omega (arith, counted-insert i (sortBy itself is), counted-append is (i ∷ []))))
       refl
+
+-- the numbers that a test holds of
+module _ (test : ℕ → Bool) where
+  unfoldable pub picked : List ℕ → List ℕ
+  picked [] = []
+  picked (i ∷ is) = cond (test i) (i ∷ picked is) (picked is)
+
+  pub picked-append : (is js : List ℕ) → picked (is ++ js) ≡ picked is ++ picked js
+  unfolding picked
+  picked-append [] js = refl
+  picked-append (i ∷ is) js = go (picked-append is js) (test i)
+    where
+      go : picked (is ++ js) ≡ picked is ++ picked js → (b : Bool)
+          → cond b (i ∷ picked (is ++ js)) (picked (is ++ js)) ≡ cond b (i ∷ picked is) (picked is) ++ picked js
+      go rest true = ap (λ (ks : List ℕ). i ∷ ks) rest
+      go rest false = rest
+
+  pub picked-length : (is : List ℕ) → length (picked is) ≡ counted test is
+  unfolding picked counted
+  picked-length [] = refl
+  picked-length (i ∷ is) = go (picked-length is) (test i)
+    where
+      go : length (picked is) ≡ counted test is → (b : Bool) → length (cond b (i ∷ picked is) (picked is)) ≡ cond b 1 0 + counted test is
+      go rest true = omega arith
+      go rest false = omega arith
+
+  pub picked-mem : (is : List ℕ) {j : ℕ} → List·Memᴰ j (picked is) → List·Memᴰ j is × (test j ≡ true)
+  unfolding picked
+  picked-mem [] m = absurd (List·Memᴰ·not-nil m)
+  picked-mem (i ∷ is) {j} m = go (picked-mem is) (test i) refl m
+    where
+      go : (List·Memᴰ j (picked is) → List·Memᴰ j is × (test j ≡ true)) → (b : Bool) → test i ≡ b → List·Memᴰ j (cond b (i ∷ picked is) (picked is))
+          → List·Memᴰ j (i ∷ is) × (test j ≡ true)
+      go rest true e (List·Memᴰ·head p) = (List·Memᴰ·head p, ap test p ∙ e)
+      go rest true e (List·Memᴰ·tail n) = let w = rest n in (List·Memᴰ·tail (w .0), w .1)
+      go rest false e n = let w = rest n in (List·Memᴰ·tail (w .0), w .1)
+
+  pub mem-picked : (is : List ℕ) {j : ℕ} → List·Memᴰ j is → test j ≡ true → List·Memᴰ j (picked is)
+  unfolding picked
+  mem-picked (i ∷ is) (List·Memᴰ·head p) e = rw (sym (ap test p) ∙ e) (List·Memᴰ·head p)
+  mem-picked (i ∷ is) {j} (List·Memᴰ·tail m) e = go (test i) (mem-picked is m e)
+    where
+      go : (b : Bool) → List·Memᴰ j (picked is) → List·Memᴰ j (cond b (i ∷ picked is) (picked is))
+      go true n = List·Memᴰ·tail n
+      go false n = n
+
+  pub picked-distinct : {is : List ℕ} → Distinct itself is → Distinct itself (picked is)
+  unfolding picked
+  picked-distinct Distinct.none = Distinct.none
+  picked-distinct (Distinct.next {x = i} {xs = is} apart d) = go (picked-distinct d) (test i)
+    where
+      go : Distinct itself (picked is) → (b : Bool) → Distinct itself (cond b (i ∷ picked is) (picked is))
+      go rest true = Distinct.next (λ j m. apart j (picked-mem is m .0)) rest
+      go rest false = rest
 
 module _ (n : ℕ) where
   each-mem : (i : ℕ) → List·Memᴰ i (each itself 0 n) → i < n

@@ -9,24 +9,15 @@ use lib.Seq.{take-all, sets, length-sets, set-comm, sets-eq, drop-at}
 use borrow.Author.Tests.{lt-ltb, le-ltb}
 use Rattle.image.specs.Fields.{countOf, rootOf}
 use Rattle.image.specs.Library.{Library}
+use Rattle.image.proofs.Runs.{sets-on}
 use Rattle.walk.specs.Forest.{Forest, none, grow, nodes, ends, siblings, forestOf}
 use Rattle.walk.specs.Links.{Linked, chained, linkedBelow, linkedTree, Room, Placed}
-use Rattle.walk.specs.Laid.{Laid}
+use Rattle.walk.specs.LaidOut.{LaidOut}
 use Rattle.walk.proofs.Places.{ends-length}
 use Rattle.walk.proofs.Forests.{forest-length}
 use Rattle.walk.proofs.Chains.{linked-below}
 
 -- ---- runs of stores
-
-pub sets-append : (l vs ws : List ℕ) (i : ℕ) → sets l i (vs ++ ws) ≡ sets (sets l i vs) (i + length vs) ws
-sets-append l [] ws i = let e : i + 0 ≡ i = omega arith in rw e
-sets-append l (v ∷ vs) ws i =
-    let e : i + suc (length vs) ≡ suc i + length vs = omega arith in
-    rw e (sets-append (set l i v) vs ws (suc i))
-
--- a second run that begins where the first ends
-sets-on : (l vs ws : List ℕ) (i j : ℕ) {m n : List ℕ} → m ≡ sets l i vs → j ≡ i + length vs → n ≡ sets m j ws → n ≡ sets l i (vs ++ ws)
-sets-on l vs ws i j e h f = f ∙ rw (e, h) (sym (sets-append l vs ws i))
 
 -- a store before a run can as well be made first
 set-before : (l vs : List ℕ) (i j x : ℕ) → i < j → set (sets l j vs) i x ≡ sets (set l i x) j vs
@@ -56,8 +47,8 @@ unfolding nodes ends
 placed-on {order} {end} {end′ = end′} {at = at} {behind = behind} {v = v} {below = below} {rest = rest} p q =
     let b : behind ≡ suc at + length (nodes below) = omega (arith, p .isBehind, tree-length v below) in
     record {
-      isOrder = sets-on order (v ∷ nodes below) (nodes rest) at behind (rw append-nil at (p .isOrder)) (omega arith) (q .isOrder);
-      isEnd = sets-on end ((suc at + length (nodes below)) ∷ ends (suc at) below) (ends (suc at + length (nodes below)) rest) at behind
+      isOrder = sets-on order at (v ∷ nodes below) behind (nodes rest) (rw append-nil at (p .isOrder)) (omega arith) (q .isOrder);
+      isEnd = sets-on end at ((suc at + length (nodes below)) ∷ ends (suc at) below) behind (ends (suc at + length (nodes below)) rest)
           (rw append-nil at (p .isEnd)) (omega (arith, ends-length (suc at) below)) (q .isEnd ∙ ap (λ (i : ℕ). sets end′ behind (ends i rest)) b);
       isBehind = omega (arith, q .isBehind, nodes-length v below rest);
     }
@@ -202,7 +193,7 @@ module _ {xs first next : List ℕ} (root : ℕ) (library : Library xs) (linked 
       fits = rw tree-is (omega (arith, forest-length library, library .layout .count));
     }
 
-    pub tree-laid : {order′ end′ : List ℕ} {behind : ℕ} → Placed order end 0 (linkedTree first next 21 root) order′ end′ behind → Laid xs order′ end′
+    pub tree-laid : {order′ end′ : List ℕ} {behind : ℕ} → Placed order end 0 (linkedTree first next 21 root) order′ end′ behind → LaidOut xs order′ end′
     tree-laid p =
         let q = rw tree-is at p in
         let few = library .layout .count in

@@ -4,6 +4,7 @@ pub mod Passing
 pub mod Offered
 pub mod Walks
 pub mod Traces
+pub mod Going
 pub mod Descent
 pub mod Children
 pub mod Siblings

@@ -18,7 +18,7 @@ use Rattle.image.specs.Fields.{wellsOf, metricOf, countOf, levelByteAt, levelAt
 use Rattle.walk.specs.Forest.{Forest, grow, nodes, ends, after, forestOf}
 use Rattle.walk.specs.Walk.{opens, Passing, into, over}
 use Rattle.walk.specs.Weighed.{weighed, foundAt, reachAt}
-use Rattle.walk.specs.Laid.{Walking, Meets}
+use Rattle.walk.specs.LaidOut.{Walking, Meets}
 use Rattle.walk.proofs.Places.{Standing, standing, ends-length}
 use Rattle.walk.proofs.Forests.{forest-in, forest-length}
 
@@ -73,12 +73,12 @@ module _ {xs : List ℕ} {metric wells count : ℕ} {order end : List ℕ} {plat
         rw (lt-leb more (coverLimit (levelAt xs node) - 1) (omega (arith, e))) refl
 
   -- the step: to the children, or past them
-  pub step : (from passed place bound node d to : ℕ) → place < count → node ≡ getD order place 0 → d ≡ foundAt xs plate node .distance → bound < d
+  pub step : (from measured place bound node d to : ℕ) → place < count → node ≡ getD order place 0 → d ≡ foundAt xs plate node .distance → bound < d
       → to ≡ cond (leb (d - bound) (reachAt xs node)) (place + 1) (getD end place 0)
-      → Passing (foundAt xs plate) (reachAt xs) bound (after from (forestOf xs)) passed (after place (forestOf xs))
-      → (place < to) × (to ≤ count) × Passing (foundAt xs plate) (reachAt xs) bound (after from (forestOf xs)) (passed + 1) (after to (forestOf xs))
+      → Passing (foundAt xs plate) (reachAt xs) bound (after from (forestOf xs)) measured (after place (forestOf xs))
+      → (place < to) × (to ≤ count) × Passing (foundAt xs plate) (reachAt xs) bound (after from (forestOf xs)) (measured + 1) (after to (forestOf xs))
   unfolding opens
-  step from passed place bound node d to h isNode isFar beyond isTo p = go (leb (d - bound) (reachAt xs node)) refl
+  step from measured place bound node d to h isNode isFar beyond isTo p = go (leb (d - bound) (reachAt xs node)) refl
     where
       s : Standing (forestOf xs) place
       s = here-stands place h
@@ -86,8 +86,8 @@ module _ {xs : List ℕ} {metric wells count : ℕ} {order end : List ℕ} {plat
       at : node ≡ getD (nodes (forestOf xs)) place 0
       at = isNode ∙ order-at place h
 
-      stood : Passing (foundAt xs plate) (reachAt xs) bound (after from (forestOf xs)) passed (grow node (s .below) (s .behind))
-      stood = subst (λ (f : Forest). Passing (foundAt xs plate) (reachAt xs) bound (after from (forestOf xs)) passed f) (s .stands ∙ ap (λ (v : ℕ). grow v (s .below) (s .behind)) (sym at)) p
+      stood : Passing (foundAt xs plate) (reachAt xs) bound (after from (forestOf xs)) measured (grow node (s .below) (s .behind))
+      stood = subst (λ (f : Forest). Passing (foundAt xs plate) (reachAt xs) bound (after from (forestOf xs)) measured f) (s .stands ∙ ap (λ (v : ℕ). grow v (s .below) (s .behind)) (sym at)) p
 
       past : ltb bound (foundAt xs plate node .distance) ≡ true
       past = lt-ltb bound (foundAt xs plate node .distance) (omega (arith, isFar))
@@ -97,14 +97,14 @@ module _ {xs : List ℕ} {metric wells count : ℕ} {order end : List ℕ} {plat
       opened-by true q = le-leb (foundAt xs plate node .distance) (bound + reachAt xs node) (omega (arith, isFar, leb-true (d - bound) (reachAt xs node) q))
       opened-by false q = lt-leb (foundAt xs plate node .distance) (bound + reachAt xs node) (omega (arith, isFar, leb-false (d - bound) (reachAt xs node) q))
 
-      at-place : {left right : Forest} → left ≡ right → Passing (foundAt xs plate) (reachAt xs) bound (after from (forestOf xs)) (suc passed) left
-          → Passing (foundAt xs plate) (reachAt xs) bound (after from (forestOf xs)) (passed + 1) right
+      at-place : {left right : Forest} → left ≡ right → Passing (foundAt xs plate) (reachAt xs) bound (after from (forestOf xs)) (suc measured) left
+          → Passing (foundAt xs plate) (reachAt xs) bound (after from (forestOf xs)) (measured + 1) right
       at-place {left} {right} e p =
-          let one : suc passed ≡ passed + 1 = omega arith in
+          let one : suc measured ≡ measured + 1 = omega arith in
           transport (λ i. Passing (foundAt xs plate) (reachAt xs) bound (after from (forestOf xs)) (one i) (e i)) p
 
       go : (t : Bool) → leb (d - bound) (reachAt xs node) ≡ t
-          → (place < to) × (to ≤ count) × Passing (foundAt xs plate) (reachAt xs) bound (after from (forestOf xs)) (passed + 1) (after to (forestOf xs))
+          → (place < to) × (to ≤ count) × Passing (foundAt xs plate) (reachAt xs) bound (after from (forestOf xs)) (measured + 1) (after to (forestOf xs))
       go true q =
           let t : to ≡ suc place = isTo ∙ ap (λ (b : Bool). cond b (place + 1) (getD end place 0)) q ∙ omega arith in
           let o : opens (foundAt xs plate) (reachAt xs) bound node ≡ true = opened-by true q in
@@ -117,11 +117,11 @@ module _ {xs : List ℕ} {metric wells count : ℕ} {order end : List ℕ} {plat
             at-place (sym (s .skipped) ∙ ap (λ (i : ℕ). after i (forestOf xs)) (sym t)) (over stood past o),
           )
 
-  module _ (from place passed bound : ℕ) (onward : from ≤ place) (all : 1048560 ≤ bound → passed ≡ 0)
-      (p : Passing (foundAt xs plate) (reachAt xs) bound (after from (forestOf xs)) passed (after place (forestOf xs))) where
+  module _ (from place measured bound : ℕ) (onward : from ≤ place) (all : 1048560 ≤ bound → measured ≡ 0)
+      (p : Passing (foundAt xs plate) (reachAt xs) bound (after from (forestOf xs)) measured (after place (forestOf xs))) where
     -- a record within the bound stands there
     pub met-one : (d : ℕ) → place < count → d ≡ foundAt xs plate (getD order place 0) .distance → d ≤ bound
-        → Meets xs plate bound from (record { place = place; distance = d; passed = passed })
+        → Meets xs plate bound from (record { place = place; distance = d; measured = measured })
     met-one d h e near = record {
       passing = p;
       onward = onward;
@@ -132,9 +132,9 @@ module _ {xs : List ℕ} {metric wells count : ℕ} {order end : List ℕ} {plat
     }
 
     -- there is none
-    pub met-none : count ≤ place → place ≤ count → Meets xs plate bound from (record { place = count; distance = 0; passed = passed })
+    pub met-none : count ≤ place → place ≤ count → Meets xs plate bound from (record { place = count; distance = 0; measured = measured })
     met-none high low = record {
-      passing = subst (λ (i : ℕ). Passing (foundAt xs plate) (reachAt xs) bound (after from (forestOf xs)) passed (after i (forestOf xs))) (omega arith) p;
+      passing = subst (λ (i : ℕ). Passing (foundAt xs plate) (reachAt xs) bound (after from (forestOf xs)) measured (after i (forestOf xs))) (omega arith) p;
       onward = omega arith;
       place = omega (arith, w .isCount);
       near = λ h. absurd (omega (arith, w .isCount));

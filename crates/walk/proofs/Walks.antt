@@ -123,55 +123,51 @@ module _ (found : ℕ → Found) (reach : ℕ → ℕ) (k : ℕ) where
   keeping-walk forest kept codes = walk-keeps (Keeping k) forest (λ v m fs. keeping-offered (found v) (codes v m)) kept
 
 -- a record no further than the worst kept, or offered to a list with room, is not passed over
-pub walk-met : (found : ℕ → Found) (reach : ℕ → ℕ) (k v : ℕ) (below behind : Forest) (kept : List Found)
-    → Ascending rank kept → length kept ≤ k → Coded kept → 1 ≤ k
-    → found v .code < 4294967296
-    → (length kept ≡ k → found v .distance ≤ worst k kept)
-    → walk found reach k (grow v below behind) kept ≡ walk found reach k (join below behind) (offered rank k (found v) kept)
-walk-met found reach k v below behind kept up room coded some code near =
-    let p : passes found reach k v (offered rank k (found v) kept) ≡ false =
-    told-false (tells-passes found reach k v _) (λ w. absurd (omega (arith, w .1, low (w .0) (offered-new rank k (found v) kept room)))) in
-    walk-turn found reach k v below behind kept false p ∙ sym (walk-join found reach k below behind _)
+pub met-open : (found : ℕ → Found) (reach : ℕ → ℕ) (k v : ℕ) (kept : List Found) → Keeping k kept → 1 ≤ k → found v .code < 4294967296
+    → (length kept ≡ k → found v .distance ≤ worst k kept) → passes found reach k v (offered rank k (found v) kept) ≡ false
+met-open found reach k v kept r some code near =
+    told-false (tells-passes found reach k v _) (λ w. absurd (omega (arith, w .1, low (w .0) (offered-new rank k (found v) kept (r .room)))))
   where
     low : length (offered rank k (found v) kept) ≡ k → List·Memᴰ (found v) (offered rank k (found v) kept) ⊎ (offered rank k (found v) kept ≡ kept)
         → found v .distance ≤ worst k (offered rank k (found v) kept)
-    low full (inl m) = under-worst some (keeping-offered (found v) code (record { ascends = up; room = room; coded = coded })) full (found v) m
+    low full (inl m) = under-worst some (keeping-offered (found v) code r) full (found v) m
     low full (inr e) = rw e (near (sym (ap length e) ∙ full))
 
--- a record further than the worst of a full list
-module _ (found : ℕ → Found) (reach : ℕ → ℕ) (k v : ℕ) (below behind : Forest) (kept : List Found)
+-- so its children are walked
+pub walk-into : (found : ℕ → Found) (reach : ℕ → ℕ) (k v : ℕ) (below behind : Forest) (kept : List Found)
+    → passes found reach k v (offered rank k (found v) kept) ≡ false
+    → walk found reach k (grow v below behind) kept ≡ walk found reach k (join below behind) (offered rank k (found v) kept)
+walk-into found reach k v below behind kept p = walk-turn found reach k v below behind kept false p ∙ sym (walk-join found reach k below behind _)
+
+-- a record further than the worst of a full list changes nothing, and is passed over or not by its reach
+module _ (found : ℕ → Found) (reach : ℕ → ℕ) (k v : ℕ) (kept : List Found)
     (r : Keeping k kept) (full : length kept ≡ k) (some : 1 ≤ k) (far : worst k kept < found v .distance) where
-  same : offered rank k (found v) kept ≡ kept
-  same = offered-beyond rank k (found v) kept full (behind-worst some r full (found v) far)
+  pub far-same : offered rank k (found v) kept ≡ kept
+  far-same = offered-beyond rank k (found v) kept full (behind-worst some r full (found v) far)
 
-  walk-into : found v .distance ≤ worst k kept + reach v → walk found reach k (grow v below behind) kept ≡ walk found reach k (join below behind) kept
-  walk-into h =
-      let p : passes found reach k v (offered rank k (found v) kept) ≡ false =
-      rw same (told-false (tells-passes found reach k v kept) (λ w. absurd (omega (arith, w .1)))) in
-      walk-turn found reach k v below behind kept false p
-      ∙ sym (walk-join found reach k below behind _)
-      ∙ ap (walk found reach k (join below behind)) same
+  pub far-open : found v .distance ≤ worst k kept + reach v → passes found reach k v (offered rank k (found v) kept) ≡ false
+  far-open h = rw far-same (told-false (tells-passes found reach k v kept) (λ w. absurd (omega (arith, w .1))))
 
-  walk-over : worst k kept + reach v < found v .distance → walk found reach k (grow v below behind) kept ≡ walk found reach k behind kept
-  walk-over h =
-      let p : passes found reach k v (offered rank k (found v) kept) ≡ true = rw same (told-true (tells-passes found reach k v kept) (full, h)) in
-      walk-turn found reach k v below behind kept true p ∙ ap (walk found reach k behind) same
+  pub far-shut : worst k kept + reach v < found v .distance → passes found reach k v (offered rank k (found v) kept) ≡ true
+  far-shut h = rw far-same (told-true (tells-passes found reach k v kept) (full, h))
 
 -- what is further than the worst of a full list is measured, or passed over, and changes nothing
 pub walk-passing : (found : ℕ → Found) (reach : ℕ → ℕ) (k bound : ℕ) {from rest : Forest} {many : ℕ} (kept : List Found)
-    → Passing found reach bound from many rest → Ascending rank kept → length kept ≡ k → 1 ≤ k → Coded kept → worst k kept ≡ bound
+    → Passing found reach bound from many rest → Keeping k kept → length kept ≡ k → 1 ≤ k → worst k kept ≡ bound
     → walk found reach k from kept ≡ walk found reach k rest kept
 unfolding opens
-walk-passing found reach k bound kept Passing.here up full some coded is = refl
-walk-passing found reach k bound kept (Passing.into {v = v} {below = below} {behind = behind} way far opened) up full some coded is =
+walk-passing found reach k bound kept Passing.here r full some is = refl
+walk-passing found reach k bound kept (Passing.into {v = v} {below = below} {behind = behind} way far opened) r full some is =
     let further = ltb-true bound (found v .distance) far in
     let near = leb-true (found v .distance) (bound + reach v) opened in
-    walk-passing found reach k bound kept way up full some coded is
-    ∙ walk-into found reach k v below behind kept (record { ascends = up; room = omega arith; coded = coded }) full some (omega arith) (omega arith)
-walk-passing found reach k bound kept (Passing.over {v = v} {below = below} {behind = behind} way far shut) up full some coded is =
+    walk-passing found reach k bound kept way r full some is
+    ∙ walk-into found reach k v below behind kept (far-open found reach k v kept r full some (omega arith) (omega arith))
+    ∙ ap (walk found reach k (join below behind)) (far-same found reach k v kept r full some (omega arith))
+walk-passing found reach k bound kept (Passing.over {v = v} {below = below} {behind = behind} way far shut) r full some is =
     let further = leb-false (found v .distance) (bound + reach v) shut in
-    walk-passing found reach k bound kept way up full some coded is
-    ∙ walk-over found reach k v below behind kept (record { ascends = up; room = omega arith; coded = coded }) full some (omega arith) (omega arith)
+    walk-passing found reach k bound kept way r full some is
+    ∙ walk-turn found reach k v below behind kept true (far-shut found reach k v kept r full some (omega arith) (omega arith))
+    ∙ ap (walk found reach k behind) (far-same found reach k v kept r full some (omega arith))
 
 module _ (found : ℕ → Found) (reach : ℕ → ℕ) (k : ℕ) where
   -- what hangs below a record that is passed over lies further than the worst kept
@@ -226,4 +222,5 @@ pub walk-first : (found : ℕ → Found) (reach : ℕ → ℕ) (k : ℕ) {forest
     → Reaching found reach forest → Coded (map found (nodes forest)) → 1 ≤ k
     → walk found reach k forest [] ≡ firstK rank k (map found (nodes forest))
 walk-first found reach k {forest} reaching coded some =
-    all-offered found reach k some forest [] reaching (coded-in found forest coded) (keeping-none k) ∙ offers-first rank k (map found (nodes forest))
+    let none = keeping-none k in
+    walk-offers found reach k [] reaching coded (none .ascends) (none .room) (none .coded) some ∙ offers-first rank k (map found (nodes forest))

@@ -4,4 +4,4 @@ pub mod Walk
 pub mod Weighed
 pub mod Measured
 pub mod Links
-pub mod Laid
+pub mod LaidOut

@@ -4,7 +4,7 @@ ghost use lib.ListN.{length, take, drop};
 ghost use Rattle.image.specs.Fields.{countOf, rootOf};
 ghost use Rattle.image.specs.Library.{Library};
 ghost use Rattle.walk.specs.Links.{linkedTree, Room, Placed};
-ghost use Rattle.walk.specs.Laid.{Laid};
+ghost use Rattle.walk.specs.LaidOut.{LaidOut};
 
 // Lays out a record and what hangs below it, at most so many generations, from place `at` on, and gives the place behind. The depth of the
 // calls is the number of generations.
@@ -49,7 +49,7 @@ pub fn lay_out(image: &[u8], count: usize, root: usize, order: &mut [u16], end: 
     requires { ⌜ Library (now image) ⌝ }
     requires { ⌜ (count ≡ countOf (now image)) × (root ≡ rootOf (now image)) ⌝ }
     requires { ⌜ (length (now order) ≡ 1024) × (length (now end) ≡ 1024) ⌝ }
-    ensures { λ _. ⌜ Laid (now (image .entry)) (now (order .exit)) (now (end .exit)) ⌝ }
+    ensures { λ _. ⌜ LaidOut (now (image .entry)) (now (order .exit)) (now (end .exit)) ⌝ }
 {
     let mut links = [1024u16; 2048];
     crate::links::link(image, count, root, &mut links);

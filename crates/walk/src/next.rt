@@ -5,12 +5,12 @@ ghost use Prim.Native.Nat.{_+_, _≤_, _<_};
 ghost use lib.Dec.{leb};
 ghost use lib.ListN.{getD};
 ghost use Rattle.walk.specs.Weighed.{foundAt, reachAt};
-ghost use Rattle.walk.specs.Laid.{Walking, Meets};
+ghost use Rattle.walk.specs.LaidOut.{Walking, Meets};
 
 pub struct Met {
     pub place: usize, // where it stands in the order of the walk, or the count where there is none
     pub distance: u32, // its distance from the plate
-    pub passed: usize, // how many records were measured before it
+    pub measured: usize, // how many records were measured before it
 }
 
 // A record's distance from the plate. Where it must be fast, the caller writes out the metric and the width.
@@ -80,7 +80,7 @@ fn next_at(
     ensures { λ r. ⌜ Meets (now (image .entry)) (now (plate .entry)) bound from r ⌝ }
 {
     let mut place = from;
-    let mut passed = 0;
+    let mut measured = 0;
     while place < count {
         let node = order[place] as usize;
         let distance = far(image, metric, wells, count, order, end, plate, node);
@@ -88,7 +88,7 @@ fn next_at(
             return Met {
                 place,
                 distance,
-                passed,
+                measured,
             };
         }
         place = onward(
@@ -103,12 +103,12 @@ fn next_at(
             node,
             distance - bound,
         );
-        passed += 1;
+        measured += 1;
     }
     Met {
         place: count,
         distance: 0,
-        passed,
+        measured,
     }
 }
 

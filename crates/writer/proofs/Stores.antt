@@ -1,21 +1,10 @@
--- A run of stores: what stands in it, before it and behind it, and two runs in a row. Assumes nothing.
-use mathlib.Core.Path.{_≡_, refl, sym, _∙_}
-use mathlib.Core.List.{List, [], _∷_, _++_}
+-- A run of stores: what stands in it, before it and behind it. Assumes nothing.
+use mathlib.Core.Path.{_≡_, refl, _∙_}
+use mathlib.Core.List.{List, [], _∷_}
 use Prim.Native.Nat.{ℕ, zero, suc, _+_, _≤_, _<_}
 use native.Mathlib.Omega.{arith}
 use lib.ListN.{length, getD, set, length-set}
 use lib.Seq.{sets, getD-set-same, getD-set-other}
-
-pub sets-append : {A : Type 0} (l vs ws : List A) (i : ℕ) → sets l i (vs ++ ws) ≡ sets (sets l i vs) (i + length vs) ws
-sets-append l [] ws i = let e : i + 0 ≡ i = omega arith in rw e
-sets-append l (v ∷ vs) ws i =
-    let e : i + suc (length vs) ≡ suc i + length vs = omega arith in
-    rw e (sets-append (set l i v) vs ws (suc i))
-
--- a second run that begins where the first ends
-pub sets-on : (l : List ℕ) (i : ℕ) (vs : List ℕ) (j : ℕ) (ws : List ℕ) {m n : List ℕ}
-    → m ≡ sets l i vs → j ≡ i + length vs → n ≡ sets m j ws → n ≡ sets l i (vs ++ ws)
-sets-on l i vs j ws e h f = f ∙ rw (e, h) (sym (sets-append l vs ws i))
 
 pub sets-before : (l vs : List ℕ) (i j : ℕ) → j < i → getD (sets l i vs) j 0 ≡ getD l j 0
 sets-before l [] i j h = refl

@@ -6,13 +6,13 @@ use lib.ListN.{length}
 use borrow.Author.Needs.{needs}
 use Rattle.image.specs.declared.refusal.Place.{Place}
 use Rattle.image.specs.declared.refusal.Refusal.the-variants.{Wells, Metric, NewProfile, NewCode, Room}
+use Rattle.image.specs.Fields.{sizeOf}
+use Rattle.image.proofs.Outcomes.{when-refused, when-given}
 use Rattle.checker.proofs.Passed.{inside}
 use Rattle.content.specs.Bytes.{Bytes}
-use Rattle.build.specs.Rules.{sizeOf}
+use Rattle.adding.proofs.Starts.{started-buffer, started-long}
 use Rattle.build.specs.Calls.{startOf}
-use Rattle.image.proofs.Outcomes.{when-refused, when-given}
 use Rattle.build.proofs.Calls.{start-wells, start-metric, start-profile, start-code, start-room, start-passes}
-use Rattle.build.proofs.Starts.{started-buffer, started-long}
 use Rattle.build.proofs.start.Statement.{statement}
 use Rattle.build.proofs.start.Tie as tie
 

@@ -1,4 +1,6 @@
--- The listing program meets its contract: what is printed lies within the page. Assumes nothing.
+-- The listing program: what it writes out lies within its page. A program's `main` has no contract on what is printed. That the page holds what is
+-- to be printed of the bytes read is the contract of `text::print`, and that 40,977 bytes are enough to read is `printed-front` in
+-- crates/text/proofs/Theorems.antt. Assumes nothing.
 use mathlib.Core.Path.{sym, ap}
 use Prim.Native.Nat.{_≤_}
 use native.Mathlib.Omega.{arith}

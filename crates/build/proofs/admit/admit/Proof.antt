@@ -17,7 +17,7 @@ admit-spec =
     (λ c. search needs)
     (λ c κs.
     let s = c .before .before .before .before .before .before .before in
-    (s .pre .0, (offer-seat _ _ _ _ (c .before .before .before .before .consider .ensures) _ (c .before .before .seat .given .1), s .pre .1)))
+    (s .pre .0, (offer-seat _ _ _ _ (c .before .before .before .before .consider .ensures) _ (c .before .before .seat .given .1) .seatFor, s .pre .1)))
     (λ c. search needs)
     (λ c. when-refused _ (c .before .refusal .given .0 .0) _ _ (offer-refused _ _ _ _ (c .before .before .before .consider .ensures) _ (c .before .refusal .given .1) _))
     (λ c. search needs)

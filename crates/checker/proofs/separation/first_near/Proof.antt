@@ -1,5 +1,4 @@
 -- `separation::first_near` meets its contract: at each width written out the wells are as many. Assumes nothing.
-use mathlib.Core.Path.{_≡_}
 use native.Mathlib.Omega.{arith}
 use borrow.Author.Needs.{needs}
 use Rattle.checker.proofs.Passed.{at-width}
@@ -9,22 +8,22 @@ use Rattle.checker.proofs.separation.first_near.Tie as tie
 pub first-near-spec : {M : Type 1} → statement M
 first-near-spec =
     tie.close
-    (tie.spec (λ c κs. let h : c .before .before .args .wells ≡ 1 = omega arith in (at-width h (c .before .before .pre .0), c .before .before .pre .1))
-    (λ c κs. let h : c .before .before .args .wells ≡ 2 = omega arith in (at-width h (c .before .before .pre .0), c .before .before .pre .1))
-    (λ c κs. let h : c .before .before .args .wells ≡ 3 = omega arith in (at-width h (c .before .before .pre .0), c .before .before .pre .1))
-    (λ c κs. let h : c .before .before .args .wells ≡ 4 = omega arith in (at-width h (c .before .before .pre .0), c .before .before .pre .1))
-    (λ c κs. let h : c .before .before .args .wells ≡ 5 = omega arith in (at-width h (c .before .before .pre .0), c .before .before .pre .1))
-    (λ c κs. let h : c .before .before .args .wells ≡ 6 = omega arith in (at-width h (c .before .before .pre .0), c .before .before .pre .1))
-    (λ c κs. let h : c .before .before .args .wells ≡ 7 = omega arith in (at-width h (c .before .before .pre .0), c .before .before .pre .1))
-    (λ c κs. let h : c .before .before .args .wells ≡ 8 = omega arith in (at-width h (c .before .before .pre .0), c .before .before .pre .1))
-    (λ c κs. let h : c .before .before .args .wells ≡ 9 = omega arith in (at-width h (c .before .before .pre .0), c .before .before .pre .1))
-    (λ c κs. let h : c .before .before .args .wells ≡ 10 = omega arith in (at-width h (c .before .before .pre .0), c .before .before .pre .1))
-    (λ c κs. let h : c .before .before .args .wells ≡ 11 = omega arith in (at-width h (c .before .before .pre .0), c .before .before .pre .1))
-    (λ c κs. let h : c .before .before .args .wells ≡ 12 = omega arith in (at-width h (c .before .before .pre .0), c .before .before .pre .1))
-    (λ c κs. let h : c .before .before .args .wells ≡ 13 = omega arith in (at-width h (c .before .before .pre .0), c .before .before .pre .1))
-    (λ c κs. let h : c .before .before .args .wells ≡ 14 = omega arith in (at-width h (c .before .before .pre .0), c .before .before .pre .1))
-    (λ c κs. let h : c .before .before .args .wells ≡ 15 = omega arith in (at-width h (c .before .before .pre .0), c .before .before .pre .1))
-    (λ c κs. let h : c .before .before .args .wells ≡ 16 = omega arith in (at-width h (c .before .before .pre .0), c .before .before .pre .1))
+    (tie.spec (λ c κs. at-width (c .before .before .pre) (omega arith))
+    (λ c κs. at-width (c .before .before .pre) (omega arith))
+    (λ c κs. at-width (c .before .before .pre) (omega arith))
+    (λ c κs. at-width (c .before .before .pre) (omega arith))
+    (λ c κs. at-width (c .before .before .pre) (omega arith))
+    (λ c κs. at-width (c .before .before .pre) (omega arith))
+    (λ c κs. at-width (c .before .before .pre) (omega arith))
+    (λ c κs. at-width (c .before .before .pre) (omega arith))
+    (λ c κs. at-width (c .before .before .pre) (omega arith))
+    (λ c κs. at-width (c .before .before .pre) (omega arith))
+    (λ c κs. at-width (c .before .before .pre) (omega arith))
+    (λ c κs. at-width (c .before .before .pre) (omega arith))
+    (λ c κs. at-width (c .before .before .pre) (omega arith))
+    (λ c κs. at-width (c .before .before .pre) (omega arith))
+    (λ c κs. at-width (c .before .before .pre) (omega arith))
+    (λ c κs. at-width (c .before .before .pre) (omega arith))
     (λ c κs. search needs)
     (λ c. search needs)
     (λ c. search needs)

@@ -3,7 +3,7 @@ use Prim.Native.Nat.{ℕ, _+_, _-_, _≤_}
 use native.Mathlib.Omega.{arith}
 use borrow.Author.Needs.{needs}
 use lib.ListN.{set}
-use Rattle.walk.specs.Laid.{Meets}
+use Rattle.walk.specs.LaidOut.{Meets}
 use Rattle.walk.proofs.Steps.{record-in, room}
 use Rattle.search.proofs.Gathers.{Gathered, gather-start, gather-length, gather-few, gather-room, gather-more, gather-end}
 use Rattle.search.proofs.inside.gather.Statement.{statement}
@@ -21,7 +21,7 @@ turn : (c : tie.After-struct-known2 Inv-loop μ-loop)
     → let a = c .before .before .before .before .before .before .before .before .before .before .before .before .before .args in
     let l = c .before .before .before .before .before .before .before .loop in
     Gathered (a .image .now) (a .plate .now) (a .radius) (a .ranks .now) (set (l .ranks) (l .strains) (c .before .before .rank .result))
-    (c .before .next2 .result .place) (l .strains + 1) (l .measured + (1 + c .before .next2 .result .passed))
+    (c .before .next2 .result .place) (l .strains + 1) (l .measured + (1 + c .before .next2 .result .measured))
 turn c =
     let s = c .before .before .before .before .before .before .before .before .before .before .before .before .before in
     let l = c .before .before .before .before .before .before .before .loop in
@@ -33,7 +33,7 @@ strains-few : (c : tie.At-loop Inv-loop μ-loop) → c .loop .strains ≤ 1024
 strains-few c = let s = c .before .before .before .before .before .before in gather-few (s .pre .0) _ _ (s .pre .1) _ _ _ _ (c .loop .inv .1) .0
 
 measured-few : (c : tie.After-struct-known2 Inv-loop μ-loop)
-    → c .before .before .before .before .before .before .before .loop .measured + (1 + c .before .next2 .result .passed) ≤ 1024
+    → c .before .before .before .before .before .before .before .loop .measured + (1 + c .before .next2 .result .measured) ≤ 1024
 measured-few c =
     let s = c .before .before .before .before .before .before .before .before .before .before .before .before .before in
     gather-few (s .pre .0) _ _ (s .pre .1) _ _ _ _ (turn c) .1

@@ -7,10 +7,10 @@ use borrow.Author.Needs.{needs}
 use Rattle.image.specs.Fields.{wellsOf}
 use Rattle.content.specs.Bytes.{Bytes}
 use Rattle.search.specs.Calls.{codeIn, distanceIn}
-use Rattle.search.specs.Steps.{Seated}
+use Rattle.search.specs.Steps.{ToServe}
 use Rattle.search.proofs.Serves.{Serving, serving-none, serving-length, serving-more}
 use Rattle.search.proofs.Serves.{best-long, code-places, distance-places, plate-is, plate-room, plate-small, plate-walking}
-use Rattle.search.proofs.Serves.{seated-codes, seated-distances, seated-served, places-small}
+use Rattle.search.proofs.Serves.{codes-room, distances-room, all-served, places-small}
 use Rattle.search.proofs.serve.serve.Statement.{statement}
 use Rattle.search.proofs.serve.serve.Tie as tie
 
@@ -23,7 +23,7 @@ abbrev μ-loop : tie.MeasureT-loop
 
 -- what the sitting is given
 given : (c : tie.At-loop Inv-loop μ-loop) → let a = c .before .before .before .before .before .before .before .before .before .before .before .before .before .args in
-    Seated (a .image .now) (a .plates .now) (a .many) (a .k) (length (a .codes .now)) (length (a .distances .now))
+    ToServe (a .image .now) (a .plates .now) (a .many) (a .k) (length (a .codes .now)) (length (a .distances .now))
 given c = c .before .before .before .before .before .before .before .before .before .before .before .before .before .pre
 
 -- the image is bytes
@@ -65,8 +65,8 @@ serve-spec =
     let at = c .before .before .before .before .before .before .before .before .before .before in
     let turn = c .before .before .before .before .before .before .before .before .before .loop-test .taken in (
       best-long (bytes at) (given at .library) _ (given at .mostK) _ (c .before .before .before .before .before .nearest .ensures),
-      omega (arith, seated-codes (given at) _ turn, serving-length _ _ _ _ _ (at .loop .inv .1)),
-      omega (arith, seated-distances (given at) _ turn, serving-length _ _ _ _ _ (at .loop .inv .2)),
+      omega (arith, codes-room (given at) _ turn, serving-length _ _ _ _ _ (at .loop .inv .1)),
+      omega (arith, distances-room (given at) _ turn, serving-length _ _ _ _ _ (at .loop .inv .2)),
     ))
     (λ c. omega (arith, c .before .before .before .before .before .before .before .before .before .before .before .before .before .before .loop-test .taken, given (c .before .before .before .before .before .before .before .before .before .before .before .before .before .before .before) .most))
     (λ c. search needs)
@@ -83,6 +83,6 @@ serve-spec =
     (λ c. serving-length _ _ _ _ _ (c .before .loop .inv .2))
     (λ c.
     let at = c .before in (
-      seated-served (given at) _ _ _ _ (search needs) (at .loop .inv .0) (given at .codesRoom) (at .loop .inv .1),
-      seated-served (given at) _ _ _ _ (search needs) (at .loop .inv .0) (given at .distancesRoom) (at .loop .inv .2),
+      all-served (given at) _ _ _ _ (search needs) (at .loop .inv .0) (given at .codesRoom) (at .loop .inv .1),
+      all-served (given at) _ _ _ _ (search needs) (at .loop .inv .0) (given at .distancesRoom) (at .loop .inv .2),
     )))

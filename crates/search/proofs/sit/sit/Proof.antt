@@ -6,17 +6,17 @@ use lib.ListN.{length}
 use borrow.Author.Needs.{needs}
 use Rattle.image.specs.declared.refusal.Place.{Place}
 use Rattle.image.specs.declared.refusal.Refusal.the-variants.{Plate, Neighbours, Room}
-use Rattle.search.specs.Steps.{Seated}
+use Rattle.search.specs.Steps.{ToServe}
 use Rattle.search.proofs.Outcomes.{when-refused, when-given}
-use Rattle.search.proofs.Sits.{plates-unfit, neighbours-unfit, room-unfit, all-passed, small, seated, sat-given}
+use Rattle.search.proofs.Sits.{plates-unfit, neighbours-unfit, room-unfit, all-passed, small, to-serve, sat-given}
 use Rattle.search.proofs.sit.sit.Statement.{statement}
 use Rattle.search.proofs.sit.sit.Tie as tie
 
 -- past all rules
 taken-in : (c : tie.Else3) → let a = c .before .before .before .before .before .before .before .before .before .args in
-    Seated (a .image .now) (a .plates .now) (length (a .plates .now) / c .before .before .before .before .before .wells .result) (a .k) (length (a .codes .now)) (length (a .distances .now))
+    ToServe (a .image .now) (a .plates .now) (length (a .plates .now) / c .before .before .before .before .before .wells .result) (a .k) (length (a .codes .now)) (length (a .distances .now))
 taken-in c =
-    seated _ _ _ _ (c .before .before .before .before .before .before .before .before .before .pre) (c .before .before .before .before .before .wells .ensures .0) (c .before .before .before .before .outside .ensures) (c .before .before .before .if1 .left) (c .before .before .outside2 .ensures) (c .before .if2 .left) (c .if3 .left)
+    to-serve _ _ _ _ (c .before .before .before .before .before .before .before .before .before .pre) (c .before .before .before .before .before .wells .ensures .0) (c .before .before .before .before .outside .ensures) (c .before .before .before .if1 .left) (c .before .before .outside2 .ensures) (c .before .if2 .left) (c .if3 .left)
 
 -- past rule 15, few places are asked for
 few : (c : tie.Else2) → let a = c .before .before .before .before .before .before .before .before .args in length (a .plates .now) / c .before .before .before .before .wells .result * a .k ≤ 2048

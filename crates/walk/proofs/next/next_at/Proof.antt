@@ -1,4 +1,4 @@
--- `next::next_at` meets its contract: what the loop has passed by lies beyond the bound. Assumes nothing.
+-- `next::next_at` meets its contract: what the loop has measured lies beyond the bound. Assumes nothing.
 use mathlib.Core.Path.{_≡_, refl}
 use Prim.Native.Nat.{_-_, _≤_}
 use native.Mathlib.Omega.{arith}
@@ -6,18 +6,18 @@ use borrow.Author.Needs.{needs}
 use Rattle.walk.specs.Forest.{after, forestOf}
 use Rattle.walk.specs.Walk.{Passing, here}
 use Rattle.walk.specs.Weighed.{foundAt, reachAt}
-use Rattle.walk.specs.Laid.{Walking}
+use Rattle.walk.specs.LaidOut.{Walking}
 use Rattle.walk.proofs.Steps.{record-in, step, met-one, met-none}
 use Rattle.walk.proofs.next.next_at.Statement.{statement}
 use Rattle.walk.proofs.next.next_at.Tie as tie
 
 abbrev Inv-loop : tie.InvT-loop
-Inv-loop image metric wells count order end plate bound from place₀ passed₀ place passed =
-    (from ≤ place) × (place ≤ count) × (passed ≤ place) × (1048560 ≤ bound → passed ≡ 0)
-    × Passing (foundAt image plate) (reachAt image) bound (after from (forestOf image)) passed (after place (forestOf image))
+Inv-loop image metric wells count order end plate bound from place₀ measured₀ place measured =
+    (from ≤ place) × (place ≤ count) × (measured ≤ place) × (1048560 ≤ bound → measured ≡ 0)
+    × Passing (foundAt image plate) (reachAt image) bound (after from (forestOf image)) measured (after place (forestOf image))
 
 abbrev μ-loop : tie.MeasureT-loop
-μ-loop image metric wells count order end plate bound from place₀ passed₀ place passed = count - place
+μ-loop image metric wells count order end plate bound from place₀ measured₀ place measured = count - place
 
 -- what the step is given
 given : (c : tie.At-loop Inv-loop μ-loop) → let a = c .before .before .before .before .args in

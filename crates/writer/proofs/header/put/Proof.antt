@@ -6,7 +6,7 @@ use native.Mathlib.Omega.{arith}
 use borrow.Author.Needs.{needs}
 use lib.ListN.{length, length-set}
 use Rattle.content.specs.Bytes.{bytes16, bytes32, headerBytes}
-use Rattle.writer.proofs.Stores.{sets-on}
+use Rattle.image.proofs.Runs.{sets-on}
 use Rattle.writer.proofs.header.put.Statement.{statement}
 use Rattle.writer.proofs.header.put.Tie as tie
 

@@ -3,7 +3,7 @@ use Prim.Native.Nat.{_+_, _/_, _%_}
 use native.Mathlib.Omega.{arith}
 use borrow.Author.Needs.{needs}
 use Rattle.content.specs.Bytes.{bytes16}
-use Rattle.writer.proofs.Stores.{sets-on}
+use Rattle.image.proofs.Runs.{sets-on}
 use Rattle.writer.proofs.number.put_u32.Statement.{statement}
 use Rattle.writer.proofs.number.put_u32.Tie as tie
 

@@ -8,7 +8,7 @@ use lib.ListN.{length-set}
 use mir.Syntax.{w32}
 use mir.ValLaws.{toZ-ofZ}
 use Rattle.content.specs.Bytes.{bytes16, bytes32, levelByteOf, nodeBytes}
-use Rattle.writer.proofs.Stores.{sets-on}
+use Rattle.image.proofs.Runs.{sets-on}
 use Rattle.writer.proofs.record.put_node.Statement.{statement}
 use Rattle.writer.proofs.record.put_node.Tie as tie
 

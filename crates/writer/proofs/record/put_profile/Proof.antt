@@ -13,7 +13,7 @@ use mir.Syntax.{w16}
 use mir.Val.{SFits}
 use mir.ValLaws.{toZ-ofZ}
 use Rattle.content.specs.Bytes.{bytes16, wordOf, profileBytes}
-use Rattle.writer.proofs.Stores.{sets-on}
+use Rattle.image.proofs.Runs.{sets-on}
 use Rattle.content.proofs.Bytes.{profile-length}
 use Rattle.writer.proofs.Wells.{profile-none, profile-more, wells-of}
 use Rattle.writer.proofs.record.put_profile.Statement.{statement}

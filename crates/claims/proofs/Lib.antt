@@ -1,0 +1,27 @@
+-- What is claimed, proved: the three demands, one answer for each call, document 01's cases, and the wrong programs that no contract lets through.
+pub mod Parts
+pub mod ByTable
+pub mod ShortNumber
+pub mod Demand1
+pub mod NotRefused
+pub mod Acceptance
+pub mod InOrder
+pub mod Searching
+pub mod Adding
+pub mod Demand2
+pub mod Demand3
+pub mod OneAnswer
+pub mod Example
+pub mod Growing
+pub mod ExampleGrown
+pub mod Cases
+pub mod TheExample
+pub mod LoneRoots
+pub mod Ends
+pub mod Inputs
+pub mod WrongChecks
+pub mod WrongSittings
+pub mod WrongWithins
+pub mod WrongShorts
+pub mod WrongBuilds
+pub mod LooksRight
