@@ -5,5 +5,4 @@ pub mod Room
 pub mod Calls
 pub mod Passed
 pub mod Theorems
-pub mod Answers
 pub mod Table

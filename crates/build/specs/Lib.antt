@@ -1,5 +1,4 @@
 -- What the contracts of start, add and filing cite, and the table of refusals for each as a reader says it.
-pub mod Answer
 pub mod Rules
 pub mod Calls
 pub mod Steps

@@ -4,17 +4,16 @@ ghost use Prim.Native.Nat.{_≤_};
 ghost use lib.ListN.{length, take};
 ghost use Rattle.image.specs.Library.{Library};
 ghost use Rattle.image.specs.Verdict.{judge};
-ghost use Rattle.image.specs.Answer.{outcome};
+ghost use Rattle.image.specs.Answer.{outcome, handed};
 ghost use Rattle.adding.specs.ImageWith.{imageWith};
 ghost use Rattle.adding.specs.Steps.{SeatFor};
-ghost use Rattle.build.specs.Answer.{handed};
 ghost use Rattle.build.specs.Rules.{roomRules};
-use crate::Built;
 use adding::seat::Seat;
+use image::refusal::Answered;
 use image::refusal::Place;
 use image::refusal::Refusal;
 
-pub fn settle(buffer: &mut [u8], stated: usize, code: u32, profile: &[i16], seat: Seat) -> Built
+pub fn settle(buffer: &mut [u8], stated: usize, code: u32, profile: &[i16], seat: Seat) -> Answered
     requires { ⌜ Library (take stated (now buffer)) ⌝ }
     requires { ⌜ SeatFor (take stated (now buffer)) (now profile) seat ⌝ }
     requires { ⌜ stated ≤ length (now buffer) ⌝ }
@@ -22,12 +21,12 @@ pub fn settle(buffer: &mut [u8], stated: usize, code: u32, profile: &[i16], seat
 {
     let count = image::header::count(buffer);
     if count == 1024 {
-        return Built::Refused(Refusal::Full(Place::None));
+        return Answered::Refused(Refusal::Full(Place::None));
     }
     let size = stated + (8 + 2 * profile.len());
     if buffer.len() < size {
-        return Built::Refused(Refusal::Room(Place::None));
+        return Answered::Refused(Refusal::Room(Place::None));
     }
     adding::grow::grow(buffer, stated, count, code, profile, seat);
-    Built::Length(size)
+    Answered::Length(size)
 }

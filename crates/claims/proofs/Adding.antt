@@ -11,14 +11,14 @@ use Rattle.image.specs.Answer.{given}
 use Rattle.content.specs.Bytes.{Bytes}
 use Rattle.content.specs.Content.{contentOf}
 use Rattle.content.specs.Adding.{started, parentFor}
-use Rattle.build.specs.declared.Built.{Built}
+use Rattle.image.specs.declared.refusal.Answered.{Answered}
 use Rattle.build.specs.Calls.{addOf, AddGives}
 use Rattle.build.proofs.Theorems.{start-accepted, start-says, start-keeps-rest, add-was-accepted, add-accepted, add-keeps-wells, add-keeps-metric, add-keeps-strains, add-keeps-rest, add-nearest, add-lowest-code, add-grown}
 use Rattle.claims.specs.Demand2.{AddedTo, Adding}
 use Rattle.claims.proofs.Parts.{answer-is, buffer-is}
 
 module _ (buffer : List ℕ) (stated code : ℕ) (profile : List ℤ) (n : ℕ) (buffer′ : List ℕ) (b : Bytes buffer) (codeFits : code < 4294967296) (values : Wells profile)
-    (e : AddGives buffer stated code profile (Built.Length n) buffer′) where
+    (e : AddGives buffer stated code profile (Answered.Length n) buffer′) where
   told : addOf buffer stated code profile .answer ≡ given n
   told = sym (answer-is e)
 

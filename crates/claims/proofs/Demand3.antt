@@ -7,11 +7,11 @@ use Rattle.image.specs.Library.{Library}
 use Rattle.image.specs.Answer.{given}
 use Rattle.image.proofs.Outcomes.{gave}
 use Rattle.content.proofs.Filing.{file-accepted, file-length, file-only-by-set, file-twice}
-use Rattle.build.specs.declared.Built.{Built}
+use Rattle.image.specs.declared.refusal.Answered.{Answered}
 use Rattle.build.specs.Calls.{fileOf}
 use Rattle.build.proofs.Passed.{file-passed}
 use Rattle.build.proofs.Theorems.{file-is}
-use Rattle.build.proofs.Answers as build
+use Rattle.image.proofs.Answers.{one-answer}
 use Rattle.search.specs.Answer.{strainsIn}
 use Rattle.search.proofs.Answers as search
 use Rattle.search.proofs.Theorems.{filing-same-answers, filing-same-within}
@@ -27,7 +27,7 @@ filed-only image buffer {n} e = file-passed image (length buffer) (gave _ _ buff
 
 pub demand-3 : Demand3
 demand-3 = record {
-  given = λ image buffer b l h e. build.one-answer _ (Built.Length (length image)) _ _ _ e (sym (file-is image buffer b l h));
+  given = λ image buffer b l h e. one-answer _ (Answered.Length (length image)) _ _ _ e (sym (file-is image buffer b l h));
   only = λ image buffer e. filed-only image buffer (sym (answer-is e));
   accepted = λ image b l. (file-accepted image b l, file-length image b l);
   equal = λ xs ys bx by lx ly. file-only-by-set xs ys bx by lx ly;

@@ -1,7 +1,7 @@
 -- Each contract leaves one answer and one content of all that was lent. Assumes nothing.
 use mathlib.Core.Path.{sym, _∙_}
+use Rattle.image.proofs.Answers as outcomes
 use Rattle.checker.proofs.Answers as checker
-use Rattle.build.proofs.Answers as build
 use Rattle.search.proofs.Answers as search
 use Rattle.text.proofs.Answers as text
 use Rattle.short.proofs.Answers as short
@@ -11,14 +11,14 @@ use Rattle.claims.specs.OneAnswer.{OneAnswer}
 pub one-answer : OneAnswer
 one-answer = record {
   check = λ image p q. checker.one-answer _ _ (p ∙ sym q);
-  start = λ wells metric code profile buffer p q. build.one-answer _ _ _ _ _ p q;
-  add = λ buffer stated code profile p q. build.one-answer _ _ _ _ _ p q;
-  file = λ image buffer p q. build.one-answer _ _ _ _ _ p q;
+  start = λ wells metric code profile buffer p q. outcomes.one-answer _ _ _ _ _ p q;
+  add = λ buffer stated code profile p q. outcomes.one-answer _ _ _ _ _ p q;
+  file = λ image buffer p q. outcomes.one-answer _ _ _ _ _ p q;
   sitting = search.one-answer;
   within = search.one-answer-within;
   short = short.one-answer;
-  list = text.one-answer;
-  print = text.one-answer-print;
+  list = λ image room p q. outcomes.one-answer _ _ _ _ _ p q;
+  print = text.one-answer;
   kw-check = host.one-word;
   kw-start = λ wells metric code profile buffer. host.one-wrote;
   kw-add = λ buffer stated code profile. host.one-wrote;

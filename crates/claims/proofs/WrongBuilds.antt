@@ -7,17 +7,16 @@ use native.Mathlib.Omega.{arith}
 use lib.IntN.{pos}
 use lib.ListN.{length, getD, take, replicate, length-append, length-take}
 use lib.Seq.{getD-take}
-use Rattle.image.specs.Answer.{given}
+use Rattle.image.specs.Answer.{given, answerOf}
 use Rattle.image.specs.Fields.{countOf}
 use Rattle.image.specs.Library.{Library}
 use Rattle.image.specs.Strains.{Strain, strainsOf, strainOf}
 use Rattle.image.proofs.Strains.{strains-length}
 use Rattle.content.specs.Bytes.{Bytes}
 use Rattle.content.proofs.Blocks.{bytes-append}
-use Rattle.build.specs.declared.Built.{Built}
-use Rattle.build.specs.Answer.{answerOf}
+use Rattle.image.specs.declared.refusal.Answered.{Answered}
 use Rattle.build.specs.Calls.{addOf, fileOf}
-use Rattle.build.proofs.Answers.{one-answer}
+use Rattle.image.proofs.Answers.{one-answer}
 use Rattle.build.proofs.Theorems.{add-was-accepted, add-accepted, add-keeps-strains, add-changes, file-was-as-long, filed-same-strains}
 use Rattle.claims.specs.Example.{exampleWith, example, reversed}
 use Rattle.claims.specs.Programs.{In64, Slice, AddAsked, AddProgram, MeetsAdd, FileAsked, FilingProgram, MeetsFile}
@@ -52,7 +51,7 @@ seventh = record {
 
 module _ (program : AddProgram) (meets : MeetsAdd program) where
   -- an addition that is not refused
-  module _ (a : AddAsked) (n : ℕ) (e : program a .answer ≡ Built.Length n) where
+  module _ (a : AddAsked) (n : ℕ) (e : program a .answer ≡ Answered.Length n) where
     abbrev now : List ℕ
     now = addOf (a .buffer) (a .stated) (a .code) (a .profile) .buffer
 
@@ -80,20 +79,20 @@ module _ (program : AddProgram) (meets : MeetsAdd program) where
       strains-length (take (a .stated) (a .buffer)),
     )
 
-  at-seventh : program seventh .answer ≡ Built.Length 66
+  at-seventh : program seventh .answer ≡ Answered.Length 66
   unfolding exampleWith
-  at-seventh = one-answer (program seventh .answer) (Built.Length 66) _ _ _ (meets seventh) (sym (with-105 (replicate 10 0) (omega arith))) .0
+  at-seventh = one-answer (program seventh .answer) (Answered.Length 66) _ _ _ (meets seventh) (sym (with-105 (replicate 10 0) (omega arith))) .0
 
   -- so none leaves the image as it was in all additions that are not refused
   pub no-addition-leaves-the-image :
-      ((a : AddAsked) (n : ℕ) → program a .answer ≡ Built.Length n
+      ((a : AddAsked) (n : ℕ) → program a .answer ≡ Answered.Length n
       → (take n (program a .buffer) ≡ take (a .stated) (a .buffer)) ⊎ (program a .buffer ≡ a .buffer))
       → ⊥
   no-addition-leaves-the-image bad =
       ⊎-elim (every-addition-changes-the-image seventh 66 at-seventh) (every-addition-changes-the-buffer seventh 66 at-seventh) (bad seventh 66 at-seventh)
 
   -- and none refuses all
-  pub no-addition-refuses-all : ((a : AddAsked) (n : ℕ) → program a .answer ≢ Built.Length n) → ⊥
+  pub no-addition-refuses-all : ((a : AddAsked) (n : ℕ) → program a .answer ≢ Answered.Length n) → ⊥
   no-addition-refuses-all bad = bad seventh 66 at-seventh
 
 -- ---- filing
@@ -109,16 +108,16 @@ abbrev other : FileAsked
 other = asked renamed renamed-bytes
 
 module _ (program : FilingProgram) (meets : MeetsFile program) where
-  at-eleventh : (program eleventh .answer ≡ Built.Length 56) × (program eleventh .buffer ≡ example)
+  at-eleventh : (program eleventh .answer ≡ Answered.Length 56) × (program eleventh .buffer ≡ example)
   unfolding exampleWith
-  at-eleventh = one-answer (program eleventh .answer) (Built.Length 56) _ _ _ (meets eleventh) (sym (reversed-filed (replicate 56 0) (omega arith)))
+  at-eleventh = one-answer (program eleventh .answer) (Answered.Length 56) _ _ _ (meets eleventh) (sym (reversed-filed (replicate 56 0) (omega arith)))
 
-  at-other : (program other .answer ≡ Built.Length 56) × (program other .buffer ≡ renamed)
+  at-other : (program other .answer ≡ Answered.Length 56) × (program other .buffer ≡ renamed)
   unfolding exampleWith renamed
-  at-other = one-answer (program other .answer) (Built.Length 56) _ _ _ (meets other) (sym (renamed-filed (replicate 56 0) (omega arith)))
+  at-other = one-answer (program other .answer) (Answered.Length 56) _ _ _ (meets other) (sym (renamed-filed (replicate 56 0) (omega arith)))
 
   -- every filing that is not refused is as long as the image, and holds the image's strains
-  pub every-filing-keeps-the-strains : (a : FileAsked) (n : ℕ) → program a .answer ≡ Built.Length n
+  pub every-filing-keeps-the-strains : (a : FileAsked) (n : ℕ) → program a .answer ≡ Answered.Length n
       → (n ≡ length (a .image)) × ((s : Strain) → List·Memᴰ s (strainsOf (take n (program a .buffer))) ↔ List·Memᴰ s (strainsOf (a .image)))
   every-filing-keeps-the-strains a n e =
       let told : fileOf (a .image) (a .buffer) .answer ≡ given n = sym (ap (λ o. o .answer) (meets a)) ∙ ap answerOf e in (
@@ -127,7 +126,7 @@ module _ (program : FilingProgram) (meets : MeetsFile program) where
       )
 
   -- none copies its input
-  pub no-filing-copies : ((a : FileAsked) (n : ℕ) → program a .answer ≡ Built.Length n → take n (program a .buffer) ≡ a .image) → ⊥
+  pub no-filing-copies : ((a : FileAsked) (n : ℕ) → program a .answer ≡ Answered.Length n → take n (program a .buffer) ≡ a .image) → ⊥
   unfolding exampleWith reversed
   no-filing-copies bad =
       let e = bad eleventh 56 (at-eleventh .0) in
@@ -135,7 +134,7 @@ module _ (program : FilingProgram) (meets : MeetsFile program) where
 
   -- none gives one constant image, nor one for each length
   pub no-filing-is-constant : (form : (size : ℕ) → List ℕ)
-      → ((a : FileAsked) (n : ℕ) → program a .answer ≡ Built.Length n → take n (program a .buffer) ≡ form (length (a .image))) → ⊥
+      → ((a : FileAsked) (n : ℕ) → program a .answer ≡ Answered.Length n → take n (program a .buffer) ≡ form (length (a .image))) → ⊥
   unfolding exampleWith reversed renamed
   no-filing-is-constant form bad =
       let first = bad eleventh 56 (at-eleventh .0) in

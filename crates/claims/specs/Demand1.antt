@@ -11,13 +11,12 @@ use Rattle.profile.specs.Distance.{Wells}
 use Rattle.image.specs.declared.refusal.Place.{Place}
 use Rattle.image.specs.Verdict.{Verdict, accepted, refused}
 use Rattle.image.specs.Faults.{Line, FirstFault, NoFault}
-use Rattle.image.specs.Answer.{Answer, given, denied}
+use Rattle.image.specs.Answer.{Answer, given, denied, answerOf}
 use Rattle.checker.specs.declared.Checked.{Checked}
 use Rattle.checker.specs.Check as check
 use Rattle.checker.specs.Table.{table}
 use Rattle.content.specs.Bytes.{Bytes}
-use Rattle.build.specs.declared.Built.{Built}
-use Rattle.build.specs.Answer as build
+use Rattle.image.specs.declared.refusal.Answered.{Answered}
 use Rattle.build.specs.Calls.{startOf, addOf, fileOf, StartGives, AddGives, FileGives}
 use Rattle.build.specs.Table.{startTable, addTable, fileTable}
 use Rattle.search.specs.declared.Served.{Served}
@@ -25,7 +24,6 @@ use Rattle.search.specs.declared.Gathered.{Gathered}
 use Rattle.search.specs.Answer.{sittingAnswer, withinAnswer}
 use Rattle.search.specs.Calls.{sittingOf, withinOf, SittingGives, WithinGives}
 use Rattle.search.specs.Table.{sittingTable, withinTable}
-use Rattle.text.specs.declared.Listed.{Listed}
 use Rattle.text.specs.Calls as text
 use Rattle.text.specs.Table.{listTable}
 use Rattle.short.specs.Short.{ShortGives}
@@ -65,15 +63,15 @@ pub record NumberBy (lines : List Line) (number : ℕ) (Unchanged : Type 0) : Ty
 
 pub record Calls1 : Type 1 where
   pub check : (image : List ℕ) (r : Checked) → check.CheckGives image r → VerdictBy (table image) (check.answerOf r)
-  pub start : (wells metric code : ℕ) (profile : List ℤ) (buffer : List ℕ) (r : Built) (buffer′ : List ℕ)
+  pub start : (wells metric code : ℕ) (profile : List ℤ) (buffer : List ℕ) (r : Answered) (buffer′ : List ℕ)
       → StartGives wells metric code profile buffer r buffer′
-      → AnswerBy (startTable wells metric code profile (length buffer)) (build.answerOf r) (buffer′ ≡ buffer)
-  pub add : (buffer : List ℕ) (stated code : ℕ) (profile : List ℤ) (r : Built) (buffer′ : List ℕ)
+      → AnswerBy (startTable wells metric code profile (length buffer)) (answerOf r) (buffer′ ≡ buffer)
+  pub add : (buffer : List ℕ) (stated code : ℕ) (profile : List ℤ) (r : Answered) (buffer′ : List ℕ)
       → AddGives buffer stated code profile r buffer′
-      → AnswerBy (addTable buffer stated code profile) (build.answerOf r) (buffer′ ≡ buffer)
-  pub file : (image buffer : List ℕ) (r : Built) (buffer′ : List ℕ)
+      → AnswerBy (addTable buffer stated code profile) (answerOf r) (buffer′ ≡ buffer)
+  pub file : (image buffer : List ℕ) (r : Answered) (buffer′ : List ℕ)
       → FileGives image buffer r buffer′
-      → AnswerBy (fileTable image (length buffer)) (build.answerOf r) (buffer′ ≡ buffer)
+      → AnswerBy (fileTable image (length buffer)) (answerOf r) (buffer′ ≡ buffer)
   pub sitting : (image : List ℕ) (plates : List ℤ) (k : ℕ) (codes distances : List ℕ) (r : Served) (codes′ distances′ : List ℕ)
       → SittingGives image plates k codes distances r codes′ distances′
       → AnswerBy (sittingTable image (length plates) k (length codes) (length distances)) (sittingAnswer r) ((codes′ ≡ codes) × (distances′ ≡ distances))
@@ -83,9 +81,9 @@ pub record Calls1 : Type 1 where
   pub short : (image plate out : List ℕ) (number : ℕ) (out′ : List ℕ)
       → ShortGives image plate out number out′
       → NumberBy (shortTable image (length plate) (length out)) number (out′ ≡ out)
-  pub list : (image room : List ℕ) (r : Listed) (room′ : List ℕ)
+  pub list : (image room : List ℕ) (r : Answered) (room′ : List ℕ)
       → text.ListGives image room r room′
-      → AnswerBy (listTable image (length room)) (text.answerOf r) (room′ ≡ room)
+      → AnswerBy (listTable image (length room)) (answerOf r) (room′ ≡ room)
 
 -- and door by door: what a program in C reads from the answer word. `Bytes`, `Wells` and the bound on a code are what the types of the arguments say
 pub record Doors1 : Type 1 where

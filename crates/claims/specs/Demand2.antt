@@ -22,7 +22,7 @@ use Rattle.content.specs.Bytes.{Bytes}
 use Rattle.content.specs.Content.{contentOf}
 use Rattle.content.specs.Adding.{started}
 use Rattle.walk.specs.Weighed.{weighed}
-use Rattle.build.specs.declared.Built.{Built}
+use Rattle.image.specs.declared.refusal.Answered.{Answered}
 use Rattle.build.specs.Calls.{StartGives, AddGives}
 use Rattle.search.specs.declared.Served.{Served}
 use Rattle.search.specs.declared.Gathered.{Gathered}
@@ -149,11 +149,11 @@ pub record AddedTo (old new : List ℕ) (code : ℕ) (profile : List ℤ) : Type
 pub record Adding : Type 0 where
   -- a start that is not refused leaves an accepted library with the one strain, a lone root at level 0
   pub starts : (wells metric code : ℕ) (profile : List ℤ) (buffer : List ℕ) (n : ℕ) (buffer′ : List ℕ) → code < 4294967296 → Wells profile
-      → StartGives wells metric code profile buffer (Built.Length n) buffer′
+      → StartGives wells metric code profile buffer (Answered.Length n) buffer′
       → Library (take n buffer′) × (contentOf (take n buffer′) ≡ started wells metric (strainOf code profile)) × (drop n buffer′ ≡ drop n buffer)
   -- an addition that is not refused leaves an accepted library with the old strains and the new one, unaltered
   pub added : (buffer : List ℕ) (stated code : ℕ) (profile : List ℤ) (n : ℕ) (buffer′ : List ℕ) → Bytes buffer → code < 4294967296 → Wells profile
-      → AddGives buffer stated code profile (Built.Length n) buffer′ → AddedTo (take stated buffer) (take n buffer′) code profile × (drop n buffer′ ≡ drop n buffer)
+      → AddGives buffer stated code profile (Answered.Length n) buffer′ → AddedTo (take stated buffer) (take n buffer′) code profile × (drop n buffer′ ≡ drop n buffer)
 
 pub record Demand2 : Type 0 where
   pub acceptance : Acceptance

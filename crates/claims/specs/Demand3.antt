@@ -8,7 +8,7 @@ use lib.ListN.{length, drop}
 use Rattle.image.specs.Library.{Library}
 use Rattle.content.specs.Bytes.{Bytes}
 use Rattle.content.specs.Filing.{filingForm, Agree}
-use Rattle.build.specs.declared.Built.{Built}
+use Rattle.image.specs.declared.refusal.Answered.{Answered}
 use Rattle.build.specs.Calls.{FileGives}
 use Rattle.search.specs.declared.Served.{Served}
 use Rattle.search.specs.declared.Gathered.{Gathered}
@@ -19,10 +19,10 @@ use Rattle.short.specs.Short.{ShortGives}
 pub record Demand3 : Type 0 where
   -- every accepted library has a filing form, and filing gives it, where there is room for it: as long as the library, in front of the buffer, with
   -- the rest of the buffer as it was
-  pub given : (image buffer : List ℕ) {r : Built} {buffer′ : List ℕ} → Bytes image → Library image → length image ≤ length buffer → FileGives image buffer r buffer′
-      → (r ≡ Built.Length (length image)) × (buffer′ ≡ filingForm image ++ drop (length image) buffer)
+  pub given : (image buffer : List ℕ) {r : Answered} {buffer′ : List ℕ} → Bytes image → Library image → length image ≤ length buffer → FileGives image buffer r buffer′
+      → (r ≡ Answered.Length (length image)) × (buffer′ ≡ filingForm image ++ drop (length image) buffer)
   -- nothing else is filed
-  pub only : (image buffer : List ℕ) {n : ℕ} {buffer′ : List ℕ} → FileGives image buffer (Built.Length n) buffer′ → Library image × (length image ≤ length buffer)
+  pub only : (image buffer : List ℕ) {n : ℕ} {buffer′ : List ℕ} → FileGives image buffer (Answered.Length n) buffer′ → Library image × (length image ≤ length buffer)
   -- it is itself accepted, and as long
   pub accepted : (image : List ℕ) → Bytes image → Library image → Library (filingForm image) × (length (filingForm image) ≡ length image)
   -- two libraries have equal filing forms, byte for byte, exactly when they agree in wells, metric and set of strains

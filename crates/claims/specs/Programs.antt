@@ -15,7 +15,7 @@ use Rattle.search.specs.Answer.{Outcome, Counts}
 use Rattle.search.specs.declared.Served.{Served}
 use Rattle.search.specs.declared.Gathered.{Gathered}
 use Rattle.search.specs.Calls.{sittingOf, SittingGives, withinOf, WithinGives}
-use Rattle.build.specs.declared.Built.{Built}
+use Rattle.image.specs.declared.refusal.Answered.{Answered}
 use Rattle.build.specs.Calls.{AddGives, FileGives}
 use Rattle.short.specs.Short.{shortOf, refusalNumber, ShortGives}
 
@@ -144,7 +144,7 @@ ServesShort program = (a : ShortAsked) → refusalNumber (shortFor a .answer) �
 
 -- what a call that builds a library hands back: its answer, and the buffer as it leaves it
 pub record BuildBack : Type 0 where
-  pub answer : Built
+  pub answer : Answered
   pub buffer : List ℕ
 
 pub record AddAsked : Type 0 where

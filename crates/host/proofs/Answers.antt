@@ -2,16 +2,15 @@
 use mathlib.Core.Path.{_≡_, sym, _∙_, ap}
 use mathlib.Core.List.{List}
 use Prim.Native.Nat.{ℕ}
-use Rattle.image.specs.Answer.{Answer, Outcome}
+use Rattle.image.specs.Answer.{Answer, Outcome, answerOf, handed}
 use Rattle.checker.specs.Check.{checkOf}
-use Rattle.build.specs.declared.Built.{Built}
-use Rattle.build.specs.Answer.{answerOf, handed}
+use Rattle.image.specs.declared.refusal.Answered.{Answered}
 use Rattle.search.specs.Answer as search
 use Rattle.host.specs.Word.{first, verdictWord, answerWord}
 use Rattle.host.specs.Doors.{Wrote, Searched}
 
-pub wrote : (built : Built) (buffer : List ℕ) (o : Outcome) {word : ℕ} → handed built buffer ≡ o → word ≡ answerWord first (answerOf built) → Wrote o word buffer
-wrote built buffer o h e = record { isWord = e ∙ ap (λ p. answerWord first (p .answer)) h; isBuffer = ap (λ p. p .buffer) h }
+pub wrote : (r : Answered) (buffer : List ℕ) (o : Outcome) {word : ℕ} → handed r buffer ≡ o → word ≡ answerWord first (answerOf r) → Wrote o word buffer
+wrote r buffer o h e = record { isWord = e ∙ ap (λ p. answerWord first (p .answer)) h; isBuffer = ap (λ p. p .buffer) h }
 
 pub searched : {Told : Type 0} (told : Told → ℕ) (answer : Answer Told) (codes distances : List ℕ) (o : search.Outcome Told) {word : ℕ}
     → search.handed answer codes distances ≡ o → word ≡ answerWord told answer → Searched told o word codes distances

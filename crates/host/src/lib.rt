@@ -33,7 +33,7 @@ pub extern "C" fn kw_start(
 ) -> u64
     ensures { λ r. ⌜ Wrote (startOf wells metric code (now (profile .entry)) (now (buffer .entry))) r (now (buffer .exit)) ⌝ }
 {
-    word::built(build::start(wells, metric, code, profile, buffer))
+    word::answered(build::start(wells, metric, code, profile, buffer))
 }
 
 // A strain added to the library that is the first `stated` bytes of the buffer.
@@ -41,7 +41,7 @@ pub extern "C" fn kw_start(
 pub extern "C" fn kw_add(buffer: &mut [u8], stated: usize, code: u32, profile: &[i16]) -> u64
     ensures { λ r. ⌜ Wrote (addOf (now (buffer .entry)) stated code (now (profile .entry))) r (now (buffer .exit)) ⌝ }
 {
-    word::built(build::add(buffer, stated, code, profile))
+    word::answered(build::add(buffer, stated, code, profile))
 }
 
 // A library's filing form, in the front of the buffer.
@@ -49,7 +49,7 @@ pub extern "C" fn kw_add(buffer: &mut [u8], stated: usize, code: u32, profile: &
 pub extern "C" fn kw_file(image: &[u8], buffer: &mut [u8]) -> u64
     ensures { λ r. ⌜ Wrote (fileOf (now (image .entry)) (now (buffer .entry))) r (now (buffer .exit)) ⌝ }
 {
-    word::built(build::file(image, buffer))
+    word::answered(build::file(image, buffer))
 }
 
 // The nearest strains of each plate of a sitting.

@@ -2,10 +2,10 @@
 ghost use mathlib.Core.Path.{_≡_};
 ghost use Prim.Native.Nat.{_<_};
 ghost use Rattle.image.specs.Refusals.{numberOf, placeOf};
-ghost use Rattle.build.specs.Answer.{answerOf};
+ghost use Rattle.image.specs.Answer.{answerOf};
 ghost use Rattle.search.specs.Answer.{sittingAnswer, withinAnswer};
 ghost use Rattle.host.specs.Word.{first as Word·first, second as Word·second, placeWord, refusedWord, answerWord, counts};
-use build::Built;
+use image::refusal::Answered;
 use image::refusal::Place;
 use image::refusal::Refusal;
 use search::Gathered;
@@ -40,12 +40,12 @@ pub fn refusal(told: Refusal) -> u64
 }
 
 // The longest library takes 40976 bytes, so 16 bits hold its length.
-pub fn built(told: Built) -> u64
+pub fn answered(told: Answered) -> u64
     ensures { λ r. ⌜ r ≡ answerWord Word·first (answerOf told) ⌝ }
 {
     match told {
-        Built::Length(length) => first(length),
-        Built::Refused(refused) => refusal(refused),
+        Answered::Length(length) => first(length),
+        Answered::Refused(refused) => refusal(refused),
     }
 }
 

@@ -3,6 +3,8 @@ use mathlib.Core.List.{List, _++_}
 use Prim.Native.Nat.{ℕ}
 use lib.ListN.{length, drop}
 use Rattle.image.specs.declared.refusal.Place.{Place}
+use Rattle.image.specs.declared.refusal.Answered.{Answered}
+use Rattle.image.specs.Refusals.{numberOf, placeOf}
 use Rattle.image.specs.Verdict.{Verdict, accepted, refused}
 
 -- what is told, or a refusal by its number and place
@@ -19,3 +21,12 @@ pub record Outcome : Type 0 where
 unfoldable pub outcome : Verdict → (new buffer : List ℕ) → Outcome
 outcome accepted new buffer = record { answer = given (length new); buffer = new ++ drop (length new) buffer }
 outcome (refused m p) new buffer = record { answer = denied m p; buffer = buffer }
+
+-- what document 01 says of the answer of such a call
+abbrev pub answerOf : Answered → Answer ℕ
+answerOf (Answered.Length n) = given n
+answerOf (Answered.Refused r) = denied (numberOf r) (placeOf r)
+
+-- the answer, and the slice
+abbrev pub handed : Answered → List ℕ → Outcome
+handed r buffer = record { answer = answerOf r; buffer = buffer }

@@ -36,6 +36,12 @@ pub enum Refusal {
     Full(Place),
 }
 
+// The answer of a call that writes to the front of one slice: how much it wrote, or why it refused.
+pub enum Answered {
+    Length(usize),
+    Refused(Refusal),
+}
+
 // The number of a refusal in document 01's table.
 pub fn number(refusal: Refusal) -> u8
     ensures { λ r. ⌜ r ≡ numberOf refusal ⌝ }

@@ -4,12 +4,11 @@ use mathlib.Core.List.{List, [], _∷_, _++_}
 use Prim.Native.Nat.{ℕ}
 use lib.Dec.{ltb}
 use lib.ListN.{length, drop}
-use Rattle.image.specs.Refusals.{numberOf, placeOf}
 use Rattle.image.specs.Verdict.{Verdict, accepted, refused, Rule, rule, when, judge}
-use Rattle.image.specs.Answer.{Answer, given, denied, Outcome, outcome}
+use Rattle.image.specs.Answer.{Outcome, outcome, handed}
 use Rattle.checker.specs.Check.{checkRules, checkOf}
 use Rattle.text.specs.Listing.{listing, refusedLine}
-use Rattle.text.specs.declared.Listed.{Listed}
+use Rattle.image.specs.declared.refusal.Answered.{Answered}
 
 -- 1 to 13 on the image, then 16: the room is shorter than 147,456 bytes, which is enough for every listing (`listing-fits`). Document 01 has no
 -- such call; document 02 names the number
@@ -18,14 +17,6 @@ listRules xs room = checkRules xs ++ rule 16 (when (ltb room 147456)) ∷ []
 
 unfoldable pub listOf : List ℕ → List ℕ → Outcome
 listOf xs room = outcome (judge (listRules xs (length room))) (listing xs) room
-
--- what document 01 says of an answer: how many bytes the listing takes, or a refusal
-abbrev pub answerOf : Listed → Answer ℕ
-answerOf (Listed.Length n) = given n
-answerOf (Listed.Refused r) = denied (numberOf r) (placeOf r)
-
-abbrev pub handed : Listed → List ℕ → Outcome
-handed r room = record { answer = answerOf r; buffer = room }
 
 -- what is printed of a library by the check's verdict: its listing, or the refusal's number
 unfoldable pub printedBy : Verdict → List ℕ → List ℕ
@@ -36,7 +27,7 @@ unfoldable pub printed : List ℕ → List ℕ
 printed xs = printedBy (checkOf xs) xs
 
 -- the contracts: of list the answer and the room are the outcome's; of print the page holds what is printed, and the rest of it is as it was
-abbrev pub ListGives : (image room : List ℕ) → Listed → (room′ : List ℕ) → Type 0
+abbrev pub ListGives : (image room : List ℕ) → Answered → (room′ : List ℕ) → Type 0
 ListGives image room r room′ = handed r room′ ≡ listOf image room
 
 abbrev pub PrintGives : (image page : List ℕ) → (r : ℕ) → (page′ : List ℕ) → Type 0

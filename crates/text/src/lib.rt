@@ -1,6 +1,7 @@
 // A library as text: its listing, and what the listing program prints of any bytes.
 ghost use Rattle.text.specs.Calls.{ListGives, PrintGives};
 use checker::Checked;
+use image::refusal::Answered;
 use image::refusal::Place;
 use image::refusal::Refusal;
 
@@ -9,22 +10,17 @@ mod lines; // lines.rt: a whole listing
 mod number; // number.rt: numbers in decimal
 mod word; // word.rt: words
 
-pub enum Listed {
-    Length(usize), // how many bytes the listing takes
-    Refused(Refusal),
-}
-
 // The listing of a library, in the front of the room. Every listing fits into 147456 bytes.
-pub fn list(image: &[u8], room: &mut [u8]) -> Listed
+pub fn list(image: &[u8], room: &mut [u8]) -> Answered
     ensures { λ r. ⌜ ListGives (now (image .entry)) (now (room .entry)) r (now (room .exit)) ⌝ }
 {
     match checker::check(image) {
-        Checked::Refused(refusal) => Listed::Refused(refusal),
+        Checked::Refused(refusal) => Answered::Refused(refusal),
         Checked::Accepted => {
             if room.len() < 147456 {
-                return Listed::Refused(Refusal::Room(Place::None));
+                return Answered::Refused(Refusal::Room(Place::None));
             }
-            Listed::Length(lines::put(room, image))
+            Answered::Length(lines::put(room, image))
         }
     }
 }
@@ -34,7 +30,10 @@ pub fn print(image: &[u8], page: &mut [u8; 147456]) -> usize
     ensures { λ r. ⌜ PrintGives (now (image .entry)) (now (page .entry)) r (now (page .exit)) ⌝ }
 {
     match list(image, page) {
-        Listed::Length(length) => length,
-        Listed::Refused(refusal) => line::put_refused(page, image::refusal::number(refusal) as u32),
+        Answered::Length(length) => length,
+        Answered::Refused(refusal) => line::put_refused(
+            page,
+            image::refusal::number(refusal) as u32,
+        ),
     }
 }

@@ -10,4 +10,4 @@ kw-add-spec =
     (tie.spec (λ c κs. search needs)
     (λ c κs. search needs)
     (λ c. search needs)
-    (λ c. wrote (c .before .before .before .add .result) _ _ (c .before .before .before .add .ensures) (c .built .ensures)))
+    (λ c. wrote (c .before .before .before .add .result) _ _ (c .before .before .before .add .ensures) (c .answered .ensures)))

@@ -10,4 +10,4 @@ kw-file-spec =
     (tie.spec (λ c κs. search needs)
     (λ c κs. search needs)
     (λ c. search needs)
-    (λ c. wrote (c .before .before .before .file .result) _ _ (c .before .before .before .file .ensures) (c .built .ensures)))
+    (λ c. wrote (c .before .before .before .file .result) _ _ (c .before .before .before .file .ensures) (c .answered .ensures)))

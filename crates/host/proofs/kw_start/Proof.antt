@@ -10,4 +10,4 @@ kw-start-spec =
     (tie.spec (λ c κs. search needs)
     (λ c κs. search needs)
     (λ c. search needs)
-    (λ c. wrote (c .before .before .before .start .result) _ _ (c .before .before .before .start .ensures) (c .built .ensures)))
+    (λ c. wrote (c .before .before .before .start .result) _ _ (c .before .before .before .start .ensures) (c .answered .ensures)))

@@ -5,10 +5,11 @@ use Prim.Native.Nat.{ℕ, _≤_}
 use native.Mathlib.Omega.{arith}
 use borrow.Author.Needs.{needs}
 use lib.ListN.{length}
+use Rattle.image.specs.Answer.{handed}
 use Rattle.image.specs.Refusals.{numberOf}
 use Rattle.text.specs.Written.{Written}
 use Rattle.text.specs.Listing.{refusedLine}
-use Rattle.text.specs.Calls.{handed, printed}
+use Rattle.text.specs.Calls.{printed}
 use Rattle.text.proofs.Calls.{printed-listed, printed-refused}
 use Rattle.text.proofs.Fits.{refused-fits}
 use Rattle.text.proofs.Writes.{written-front}

@@ -1,13 +1,13 @@
--- `built` meets its contract, case by case. Assumes nothing.
+-- `answered` meets its contract, case by case. Assumes nothing.
 use mathlib.Core.Path.{sym, _∙_, ap}
-use Rattle.build.specs.Answer.{answerOf}
+use Rattle.image.specs.Answer.{answerOf}
 use Rattle.host.specs.Word.{first, answerWord}
 use borrow.Author.Needs.{needs}
-use Rattle.host.proofs.word.built.Statement.{statement}
-use Rattle.host.proofs.word.built.Tie as tie
+use Rattle.host.proofs.word.answered.Statement.{statement}
+use Rattle.host.proofs.word.answered.Tie as tie
 
-pub built-spec : {M : Type 1} → statement M
-built-spec =
+pub answered-spec : {M : Type 1} → statement M
+answered-spec =
     tie.close
     (tie.spec (λ c. search needs)
     (λ c κs. search needs)
