@@ -69,10 +69,38 @@ static void short_and_filing(void) {
     HOLDS(found[0] == 103 && found[4] == 3 && found[24] == 101 && found[28] == 7 && found[32] == 0);
 }
 
+static const char lines[] =
+    "wells 1 metric 1 count 4 root 101\n101 101 4 0\n102 101 1 3\n103 101 3 10\n104 103 -1 11\n";
+
+static uint8_t room[KW_LISTING_BYTES + 1], before[sizeof room];
+
+/* Whether the room is as it was from this byte on. */
+static int stays(size_t from) { return memcmp(room + from, before + from, sizeof room - from) == 0; }
+
+static void listing(void) {
+    size_t whole = sizeof lines - 1;
+    memset(before, 0xee, sizeof before);
+    memcpy(room, before, sizeof room);
+    uint64_t no_room = kw_list(image, length, room, KW_LISTING_BYTES - 1);
+    HOLDS(kw_refusal(no_room) == KW_REFUSED_ROOM && kw_place(no_room) == KW_NO_PLACE && stays(0));
+
+    uint8_t damaged[56];
+    memcpy(damaged, image, sizeof damaged);
+    damaged[30] = 1; /* 102's level byte */
+    uint64_t cover = kw_list(damaged, sizeof damaged, room, sizeof room);
+    HOLDS(kw_refusal(cover) == KW_REFUSED_COVER && kw_place(cover) == KW_RECORD && kw_record(cover) == 1 && stays(0));
+
+    uint64_t listed = kw_list(image, length, room, KW_LISTING_BYTES);
+    HOLDS(kw_refusal(listed) == KW_ACCEPTED && kw_listing_length(listed) == whole);
+    HOLDS(memcmp(room, lines, whole) == 0 && stays(whole));
+    HOLDS(kw_listing_length(0x0000000200030000) == 0x20003); /* one of more than 65,535 bytes */
+}
+
 int main(void) {
     build();
     refusals();
     searches();
     short_and_filing();
+    listing();
     return failed;
 }

@@ -23,13 +23,14 @@ extern "C" {
 
 /* Limits. */
 enum {
-    KW_MOST_WELLS = 16,       /* wells of a profile, from 1 */
-    KW_MOST_STRAINS = 1024,   /* strains of a library, from 1 */
-    KW_MOST_PLATES = 64,      /* plates of a sitting, from 1 */
-    KW_MOST_NEIGHBOURS = 32,  /* neighbours asked for, from 1 */
-    KW_MOST_BYTES = 40976,    /* bytes of an image */
-    KW_SHORT_STRAINS = 5,     /* strains that the short call tells */
-    KW_SHORT_BYTES = 40       /* bytes that it writes */
+    KW_MOST_WELLS = 16,        /* wells of a profile, from 1 */
+    KW_MOST_STRAINS = 1024,    /* strains of a library, from 1 */
+    KW_MOST_PLATES = 64,       /* plates of a sitting, from 1 */
+    KW_MOST_NEIGHBOURS = 32,   /* neighbours asked for, from 1 */
+    KW_MOST_BYTES = 40976,     /* bytes of an image */
+    KW_LISTING_BYTES = 147456, /* bytes that every listing fits into */
+    KW_SHORT_STRAINS = 5,      /* strains that the short call tells */
+    KW_SHORT_BYTES = 40        /* bytes that it writes */
 };
 
 /* The bytes of an image of so many strains, each of so many wells. */
@@ -72,6 +73,8 @@ enum {
  *   32..47   of a pair the later record; else 0         second value
  *   48..63   0                                          0
  *
+ * A listing's length takes both values: the first is its lower 16 bits, the second its upper ones.
+ *
  * The functions that follow take it apart. Ask kw_refusal first; the others tell of a refused call or of one that is not.
  */
 
@@ -91,6 +94,9 @@ static inline unsigned kw_later(uint64_t answer) { return (unsigned)(answer >> 3
 
 /* Of kw_start, kw_add and kw_file: the length of the image that was made. */
 static inline size_t kw_length(uint64_t answer) { return (size_t)(answer >> 16 & 0xffff); }
+
+/* Of kw_list: the length of the listing. */
+static inline size_t kw_listing_length(uint64_t answer) { return (size_t)(answer >> 16 & 0xffffffff); }
 
 /* Of kw_sitting: how many places of each plate hold strains. Of kw_within: how many strains were found. */
 static inline size_t kw_strains(uint64_t answer) { return (size_t)(answer >> 16 & 0xffff); }
@@ -127,6 +133,17 @@ uint64_t kw_add(uint8_t *buffer, size_t buffer_len, size_t image_len,
  * Refusals, in this order: 1 to 13, 16. Answer: kw_length.
  */
 uint64_t kw_file(const uint8_t *image, size_t image_len,
+                 uint8_t *buffer, size_t buffer_len);
+
+/*
+ * The listing: the library as text in ASCII. A header with wells, metric, count and the root's code; then a line for each
+ * record, in their order, with its code, its parent's code, its level and its values. One space stands between, and each
+ * line ends in one line feed; no zero byte follows.
+ * Writes the listing at the front of the buffer, which needs KW_LISTING_BYTES, also where the listing is shorter; the rest
+ * stays.
+ * Refusals, in this order: 1 to 13, 16. Answer: kw_listing_length.
+ */
+uint64_t kw_list(const uint8_t *image, size_t image_len,
                  uint8_t *buffer, size_t buffer_len);
 
 /*

@@ -130,7 +130,7 @@ class Contracts(Scratch):
     # ---- calls
 
     def test_refuses_a_requires_in_the_host(self):
-        calls = [f"kw_{name}" for name in "check start add file sitting within short".split()]
+        calls = [f"kw_{name}" for name in "check start add file list sitting within short".split()]
         self.write("host/src/lib.rt", "".join(f'pub extern "C" fn {call}()\n    ensures {{ λ r. ⌜ Yes ⌝ }}\n{{\n}}\n' for call in calls))
         self.assert_passed("public functions in 2 crates")
         self.refuse_source("fn own(x: u8)\n    requires { ⌜ x ≤ 3 ⌝ }\n{\n}\n",

@@ -12,7 +12,7 @@ use Rattle.text.specs.Calls.{listOf}
 use Rattle.text.proofs.Table.{list-table}
 use Rattle.short.specs.Short.{shortOf}
 use Rattle.short.proofs.Theorems.{short-table}
-use Rattle.host.proofs.Readings.{check-read, start-read, add-read, file-read, sitting-read, within-read}
+use Rattle.host.proofs.Readings.{check-read, start-read, add-read, file-read, list-read, sitting-read, within-read}
 use Rattle.claims.specs.Demand1.{VerdictBy, Calls1, Doors1, Demand1}
 use Rattle.claims.proofs.Parts.{answer-is, buffer-is, told-is, codes-are, distances-are}
 use Rattle.claims.proofs.ByTable.{verdict-by, front-by, both-by}
@@ -39,7 +39,7 @@ calls-by-table = record {
 -- ---- the doors
 
 pub doors-by-table : Doors1
-unfolding checkOf startOf addOf fileOf sittingOf withinOf
+unfolding checkOf startOf addOf fileOf listOf sittingOf withinOf
 doors-by-table = record {
   kw-check = λ image word b e. subst (VerdictBy (table image)) (sym (check-read image b e)) (verdict-by (check-table image));
   kw-start = λ wells metric code profile buffer word buffer′ w.
@@ -47,6 +47,7 @@ doors-by-table = record {
   kw-add = λ buffer stated code profile word buffer′ b h v w.
       front-by (add-table buffer stated code profile) _ _ (add-read buffer stated code profile b h v w) (w .isBuffer);
   kw-file = λ image buffer word buffer′ b w. front-by (file-table image (length buffer)) _ _ (file-read image buffer b w) (w .isBuffer);
+  kw-list = λ image buffer word buffer′ b w. front-by (list-table image (length buffer)) _ _ (list-read image buffer b w) (w .isBuffer);
   kw-sitting = λ image plates k codes distances word codes′ distances′ b s.
       both-by (sitting-table image (length plates) k (length codes) (length distances)) _ _ _ refl (sitting-read image plates k codes distances b s) (s .isCodes) (s .isDistances);
   kw-within = λ image plate radius codes distances word codes′ distances′ b s.

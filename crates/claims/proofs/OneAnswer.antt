@@ -23,6 +23,7 @@ one-answer = record {
   kw-start = λ wells metric code profile buffer. host.one-wrote;
   kw-add = λ buffer stated code profile. host.one-wrote;
   kw-file = λ image buffer. host.one-wrote;
+  kw-list = λ image buffer. host.one-wrote;
   kw-sitting = λ image plates k codes distances. host.one-searched;
   kw-within = λ image plate radius codes distances. host.one-searched;
 }

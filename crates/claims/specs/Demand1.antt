@@ -28,9 +28,9 @@ use Rattle.text.specs.Calls as text
 use Rattle.text.specs.Table.{listTable}
 use Rattle.short.specs.Short.{ShortGives}
 use Rattle.short.specs.Table.{shortTable}
-use Rattle.host.specs.Word.{first, counts, verdictWord}
+use Rattle.host.specs.Word.{first, long, counts, verdictWord}
 use Rattle.host.specs.Doors.{Wrote, Searched}
-use Rattle.host.specs.Reading.{answerIn, verdictIn, valueFrom, countsFrom}
+use Rattle.host.specs.Reading.{answerIn, verdictIn, valueFrom, longFrom, countsFrom}
 
 -- ---- what is demanded of one call
 
@@ -89,14 +89,17 @@ pub record Calls1 : Type 1 where
 pub record Doors1 : Type 1 where
   pub kw-check : (image : List ℕ) (word : ℕ) → Bytes image → word ≡ verdictWord (check.checkOf image) → VerdictBy (table image) (verdictIn word)
   pub kw-start : (wells metric code : ℕ) (profile : List ℤ) (buffer : List ℕ) (word : ℕ) (buffer′ : List ℕ)
-      → Wrote (startOf wells metric code profile buffer) word buffer′
+      → Wrote first (startOf wells metric code profile buffer) word buffer′
       → AnswerBy (startTable wells metric code profile (length buffer)) (answerIn valueFrom word) (buffer′ ≡ buffer)
   pub kw-add : (buffer : List ℕ) (stated code : ℕ) (profile : List ℤ) (word : ℕ) (buffer′ : List ℕ) → Bytes buffer → code < 4294967296 → Wells profile
-      → Wrote (addOf buffer stated code profile) word buffer′
+      → Wrote first (addOf buffer stated code profile) word buffer′
       → AnswerBy (addTable buffer stated code profile) (answerIn valueFrom word) (buffer′ ≡ buffer)
   pub kw-file : (image buffer : List ℕ) (word : ℕ) (buffer′ : List ℕ) → Bytes image
-      → Wrote (fileOf image buffer) word buffer′
+      → Wrote first (fileOf image buffer) word buffer′
       → AnswerBy (fileTable image (length buffer)) (answerIn valueFrom word) (buffer′ ≡ buffer)
+  pub kw-list : (image buffer : List ℕ) (word : ℕ) (buffer′ : List ℕ) → Bytes image
+      → Wrote long (text.listOf image buffer) word buffer′
+      → AnswerBy (listTable image (length buffer)) (answerIn longFrom word) (buffer′ ≡ buffer)
   pub kw-sitting : (image : List ℕ) (plates : List ℤ) (k : ℕ) (codes distances : List ℕ) (word : ℕ) (codes′ distances′ : List ℕ) → Bytes image
       → Searched first (sittingOf image plates k codes distances) word codes′ distances′
       → AnswerBy (sittingTable image (length plates) k (length codes) (length distances)) (answerIn valueFrom word) ((codes′ ≡ codes) × (distances′ ≡ distances))

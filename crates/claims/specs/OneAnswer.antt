@@ -11,9 +11,9 @@ use Rattle.build.specs.Calls.{startOf, addOf, fileOf, StartGives, AddGives, Fil
 use Rattle.search.specs.declared.Served.{Served}
 use Rattle.search.specs.declared.Gathered.{Gathered}
 use Rattle.search.specs.Calls.{sittingOf, withinOf, SittingGives, WithinGives}
-use Rattle.text.specs.Calls.{ListGives, PrintGives}
+use Rattle.text.specs.Calls.{listOf, ListGives, PrintGives}
 use Rattle.short.specs.Short.{ShortGives}
-use Rattle.host.specs.Word.{first, counts, verdictWord}
+use Rattle.host.specs.Word.{first, long, counts, verdictWord}
 use Rattle.host.specs.Doors.{Wrote, Searched}
 
 -- an answer and one slice, or two
@@ -40,10 +40,11 @@ pub record OneAnswer : Type 0 where
   -- the doors: the check's word; a word and one buffer; a word and two slices
   pub kw-check : (image : List ℕ) {w v : ℕ} → w ≡ verdictWord (checkOf image) → v ≡ verdictWord (checkOf image) → w ≡ v
   pub kw-start : (wells metric code : ℕ) (profile : List ℤ) (buffer : List ℕ) {w v : ℕ} {b c : List ℕ}
-      → Wrote (startOf wells metric code profile buffer) w b → Wrote (startOf wells metric code profile buffer) v c → Same w v b c
+      → Wrote first (startOf wells metric code profile buffer) w b → Wrote first (startOf wells metric code profile buffer) v c → Same w v b c
   pub kw-add : (buffer : List ℕ) (stated code : ℕ) (profile : List ℤ) {w v : ℕ} {b c : List ℕ}
-      → Wrote (addOf buffer stated code profile) w b → Wrote (addOf buffer stated code profile) v c → Same w v b c
-  pub kw-file : (image buffer : List ℕ) {w v : ℕ} {b c : List ℕ} → Wrote (fileOf image buffer) w b → Wrote (fileOf image buffer) v c → Same w v b c
+      → Wrote first (addOf buffer stated code profile) w b → Wrote first (addOf buffer stated code profile) v c → Same w v b c
+  pub kw-file : (image buffer : List ℕ) {w v : ℕ} {b c : List ℕ} → Wrote first (fileOf image buffer) w b → Wrote first (fileOf image buffer) v c → Same w v b c
+  pub kw-list : (image buffer : List ℕ) {w v : ℕ} {b c : List ℕ} → Wrote long (listOf image buffer) w b → Wrote long (listOf image buffer) v c → Same w v b c
   pub kw-sitting : (image : List ℕ) (plates : List ℤ) (k : ℕ) (codes distances : List ℕ) {w v : ℕ} {c c′ d d′ : List ℕ}
       → Searched first (sittingOf image plates k codes distances) w c d → Searched first (sittingOf image plates k codes distances) v c′ d′ → SameBoth w v c c′ d d′
   pub kw-within : (image : List ℕ) (plate : List ℤ) (radius : ℕ) (codes distances : List ℕ) {w v : ℕ} {c c′ d d′ : List ℕ}

@@ -6,11 +6,12 @@ use Rattle.image.specs.Answer.{Answer, Outcome, answerOf, handed}
 use Rattle.checker.specs.Check.{checkOf}
 use Rattle.image.specs.declared.refusal.Answered.{Answered}
 use Rattle.search.specs.Answer as search
-use Rattle.host.specs.Word.{first, verdictWord, answerWord}
+use Rattle.host.specs.Word.{verdictWord, answerWord}
 use Rattle.host.specs.Doors.{Wrote, Searched}
 
-pub wrote : (r : Answered) (buffer : List ℕ) (o : Outcome) {word : ℕ} → handed r buffer ≡ o → word ≡ answerWord first (answerOf r) → Wrote o word buffer
-wrote r buffer o h e = record { isWord = e ∙ ap (λ p. answerWord first (p .answer)) h; isBuffer = ap (λ p. p .buffer) h }
+pub wrote : (told : ℕ → ℕ) (r : Answered) (buffer : List ℕ) (o : Outcome) {word : ℕ} → handed r buffer ≡ o → word ≡ answerWord told (answerOf r)
+    → Wrote told o word buffer
+wrote told r buffer o h e = record { isWord = e ∙ ap (λ p. answerWord told (p .answer)) h; isBuffer = ap (λ p. p .buffer) h }
 
 pub searched : {Told : Type 0} (told : Told → ℕ) (answer : Answer Told) (codes distances : List ℕ) (o : search.Outcome Told) {word : ℕ}
     → search.handed answer codes distances ≡ o → word ≡ answerWord told answer → Searched told o word codes distances
@@ -27,7 +28,8 @@ pub one-word : (xs : List ℕ) {word word′ : ℕ} → word ≡ verdictWord (ch
 one-word xs p q = p ∙ sym q
 
 -- of the calls that write to a buffer
-pub one-wrote : {o : Outcome} {word word′ : ℕ} {buffer buffer′ : List ℕ} → Wrote o word buffer → Wrote o word′ buffer′ → (word ≡ word′) × (buffer ≡ buffer′)
+pub one-wrote : {told : ℕ → ℕ} {o : Outcome} {word word′ : ℕ} {buffer buffer′ : List ℕ} → Wrote told o word buffer → Wrote told o word′ buffer′
+    → (word ≡ word′) × (buffer ≡ buffer′)
 one-wrote p q = (p .isWord ∙ sym (q .isWord), p .isBuffer ∙ sym (q .isBuffer))
 
 -- of the searches

@@ -19,6 +19,7 @@ use Rattle.checker.specs.Tests.{outside}
 use Rattle.checker.specs.Check.{treeRules, recordRules, layoutRules, headerRules, checkRules}
 use Rattle.checker.proofs.Passed.{inside}
 use Rattle.build.specs.Rules.{startRules, roomRules, strainRules, addRules, fileRules}
+use Rattle.text.specs.Calls.{listRules}
 use Rattle.search.specs.Rules.{sliceRules, plateRules, sittingRules, radiusRules, withinRules}
 use Rattle.host.proofs.Words.{none-fits, record-fits, pair-fits, PlaceFits, VerdictFits, accepted-fits, refused-fits}
 
@@ -106,6 +107,10 @@ module _ (xs : List ℕ) (few : countOf xs ≤ 65536) where
   pub file-fits : (room : ℕ) → VerdictFits (judge (fileRules xs room))
   unfolding fileRules
   file-fits room = judge-fits (fits-append check-rules (next refl (whole-fits _) end))
+
+  pub list-fits : (room : ℕ) → VerdictFits (judge (listRules xs room))
+  unfolding listRules
+  list-fits room = judge-fits (fits-append check-rules (next refl (whole-fits _) end))
 
   pub sitting-fits : (values k codes distances : ℕ) → VerdictFits (judge (sittingRules xs values k codes distances))
   unfolding sittingRules plateRules sliceRules

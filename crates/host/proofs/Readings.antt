@@ -21,14 +21,16 @@ use Rattle.image.specs.Strains.{strainOf}
 use Rattle.build.specs.Calls.{startOf, addOf, fileOf}
 use Rattle.build.proofs.Passed.{starts}
 use Rattle.build.proofs.Theorems.{add-accepted, filed-accepted}
+use Rattle.text.specs.Listing.{listing}
+use Rattle.text.specs.Calls.{listOf}
 use Rattle.search.specs.Answer as search
 use Rattle.search.specs.Calls.{sittingOf, withinOf}
-use Rattle.host.specs.Word.{first, counts, verdictWord}
+use Rattle.host.specs.Word.{first, long, counts, verdictWord}
 use Rattle.host.specs.Doors.{Wrote, Searched}
-use Rattle.host.specs.Reading.{answerIn, verdictIn, valueFrom, countsFrom}
-use Rattle.host.proofs.Words.{VerdictFits, accepted-fits, refused-fits, AnswerFits, given-fits, denied-fits, In16, Reads, reads-value, reads-counts, word-read, verdict-read}
-use Rattle.host.proofs.Fits.{check-fits, start-fits, add-fits, file-fits, sitting-fits, within-fits}
-use Rattle.host.proofs.Values.{longest, started-length, count-low, near-few, measured-few}
+use Rattle.host.specs.Reading.{answerIn, verdictIn, valueFrom, longFrom, countsFrom}
+use Rattle.host.proofs.Words.{VerdictFits, accepted-fits, refused-fits, AnswerFits, given-fits, denied-fits, In16, Reads, reads-value, reads-long, reads-counts, word-read, verdict-read}
+use Rattle.host.proofs.Fits.{check-fits, start-fits, add-fits, file-fits, list-fits, sitting-fits, within-fits}
+use Rattle.host.proofs.Values.{longest, started-length, listing-low, count-low, near-few, measured-few}
 
 -- ---- the check
 
@@ -38,19 +40,21 @@ check-read xs b e = ap verdictIn e ∙ verdict-read (check-fits xs (omega (arith
 
 -- ---- calls that write to a buffer
 
-wrote-read : {o : Outcome} {word : ℕ} {after : List ℕ} → Wrote o word after → AnswerFits In16 (o .answer) → answerIn valueFrom word ≡ o .answer
-wrote-read w f = ap (answerIn valueFrom) (w .isWord) ∙ word-read reads-value f
+wrote-read : {Small : ℕ → Type 0} {tells : ℕ → ℕ} {told : ℕ → ℕ → ℕ} {o : Outcome} {word : ℕ} {after : List ℕ}
+    → Reads Small tells told → Wrote tells o word after → AnswerFits Small (o .answer) → answerIn told word ≡ o .answer
+wrote-read {told = told} r w f = ap (answerIn told) (w .isWord) ∙ word-read r f
 
 -- not refused, such a call tells how long is what it wrote
-wrote-fits : {v : Verdict} (new buffer : List ℕ) → VerdictFits v → (v ≡ accepted → length new < 65536) → AnswerFits In16 (outcome v new buffer .answer)
+wrote-fits : {Small : ℕ → Type 0} {v : Verdict} (new buffer : List ℕ) → VerdictFits v → (v ≡ accepted → Small (length new))
+    → AnswerFits Small (outcome v new buffer .answer)
 unfolding outcome
 wrote-fits new buffer accepted-fits h = given-fits (h refl)
 wrote-fits new buffer (refused-fits f) h = denied-fits f
 
-pub start-read : (wells metric code : ℕ) (profile : List ℤ) (buffer : List ℕ) {word : ℕ} {after : List ℕ} → Wrote (startOf wells metric code profile buffer) word after
+pub start-read : (wells metric code : ℕ) (profile : List ℤ) (buffer : List ℕ) {word : ℕ} {after : List ℕ} → Wrote first (startOf wells metric code profile buffer) word after
     → answerIn valueFrom word ≡ startOf wells metric code profile buffer .answer
 unfolding startOf
-start-read wells metric code profile buffer w = wrote-read w (wrote-fits _ buffer (start-fits wells metric code profile (length buffer)) short)
+start-read wells metric code profile buffer w = wrote-read reads-value w (wrote-fits _ buffer (start-fits wells metric code profile (length buffer)) short)
   where
     short : judge (startRules wells metric code profile (length buffer)) ≡ accepted → length (bytesOf (started wells metric (strainOf code profile))) < 65536
     short e =
@@ -66,17 +70,25 @@ library-fits new buffer accepted-fits h =
 library-fits new buffer (refused-fits f) h = denied-fits f
 
 pub add-read : (buffer : List ℕ) (stated code : ℕ) (profile : List ℤ) {word : ℕ} {after : List ℕ} → Bytes buffer → code < 4294967296 → Wells profile
-    → Wrote (addOf buffer stated code profile) word after → answerIn valueFrom word ≡ addOf buffer stated code profile .answer
+    → Wrote first (addOf buffer stated code profile) word after → answerIn valueFrom word ≡ addOf buffer stated code profile .answer
 unfolding addOf
 add-read buffer stated code profile b codeFits values w =
-    wrote-read w
+    wrote-read reads-value w
     (library-fits _ buffer (add-fits buffer stated code profile (omega (arith, count-low (bytes-take stated buffer b))))
     (add-accepted buffer stated code profile b codeFits values))
 
-pub file-read : (image buffer : List ℕ) {word : ℕ} {after : List ℕ} → Bytes image → Wrote (fileOf image buffer) word after
+pub file-read : (image buffer : List ℕ) {word : ℕ} {after : List ℕ} → Bytes image → Wrote first (fileOf image buffer) word after
     → answerIn valueFrom word ≡ fileOf image buffer .answer
 unfolding fileOf
-file-read image buffer b w = wrote-read w (library-fits _ buffer (file-fits image (omega (arith, count-low b)) (length buffer)) (filed-accepted image buffer b))
+file-read image buffer b w =
+    wrote-read reads-value w (library-fits _ buffer (file-fits image (omega (arith, count-low b)) (length buffer)) (filed-accepted image buffer b))
+
+pub list-read : (image buffer : List ℕ) {word : ℕ} {after : List ℕ} → Bytes image → Wrote long (listOf image buffer) word after
+    → answerIn longFrom word ≡ listOf image buffer .answer
+unfolding listOf
+list-read image buffer b w =
+    wrote-read reads-long w
+    (wrote-fits (listing image) buffer (list-fits image (omega (arith, count-low b)) (length buffer)) (listing-low image (length buffer) b))
 
 -- ---- searches
 

@@ -1,4 +1,4 @@
--- The values that the calls tell have 16 bits: lengths of libraries, counts of strains. Assumes nothing.
+-- The values that the calls tell have 16 bits: lengths of libraries, counts of strains. The length of a listing has 32. Assumes nothing.
 use mathlib.Core.Path.{_≡_}
 use mathlib.Core.Bool.{Bool, true, false, cond}
 use mathlib.Core.List.{List, [], _∷_, _++_, flatMap}
@@ -11,6 +11,10 @@ use lib.ListN.{length, length-append}
 use Rattle.ranking.specs.Found.{Found}
 use Rattle.image.specs.Fields.{countOf}
 use Rattle.image.specs.Library.{Library}
+use Rattle.image.specs.Verdict.{accepted, judge}
+use Rattle.image.proofs.Verdicts.{judge-both}
+use Rattle.checker.specs.Check.{checkRules, checkOf}
+use Rattle.checker.proofs.Accepted.{accepted-exactly}
 use Rattle.content.specs.Content.{Kept, keptOf, noRecord, nth}
 use Rattle.content.specs.Bytes.{Bytes, bytesOf, headerBytes, nodeBytes, profileBytes}
 use Rattle.content.specs.Adding.{started}
@@ -20,6 +24,9 @@ use Rattle.image.specs.Strains.{strainOf}
 use Rattle.walk.specs.Measured.{isMeasured, measuredFrom, measuredCount}
 use Rattle.search.specs.Ranked.{ranked, inside, withinRadius}
 use Rattle.search.proofs.Lists.{ranked-length}
+use Rattle.text.specs.Listing.{listing}
+use Rattle.text.specs.Calls.{listRules}
+use Rattle.text.proofs.Fits.{listing-fits}
 
 -- ---- lengths
 
@@ -47,6 +54,11 @@ started-length wells metric code profile =
     alone : (i : ℕ) → i < 1 → length (profileBytes (nth (keptOf code profile 0 (pos 0) ∷ []) i .strain .profile)) ≡ 2 * length profile
     alone zero h = profile-length profile
     alone (suc i) h = absurd (omega arith)
+
+-- a listing that is given is a library's
+pub listing-low : (xs : List ℕ) (room : ℕ) → Bytes xs → judge (listRules xs room) ≡ accepted → length (listing xs) < 4294967296
+unfolding listRules checkOf
+listing-low xs room b e = omega (arith, listing-fits b (accepted-exactly xs .0 (judge-both (checkRules xs) _ e .0)))
 
 -- ---- counts
 

@@ -1,14 +1,14 @@
 -- The answer word loses nothing: taken apart, it gives the answer back, so words differ where answers differ. Assumes nothing.
 use mathlib.Core.Path.{_≡_, refl, sym, _∙_, ap, ap₂}
-use Prim.Native.Nat.{ℕ, zero, suc, _+_, _*_, _≤_, _<_}
+use Prim.Native.Nat.{ℕ, zero, suc, _+_, _*_, _/_, _%_, _≤_, _<_}
 use native.Mathlib.Omega.{arith}
 use Rattle.image.specs.declared.refusal.Place.{Place}
 use Rattle.image.specs.declared.refusal.Place.the-variants.{None, Record, Pair}
 use Rattle.image.specs.Verdict.{Verdict, accepted, refused}
 use Rattle.image.specs.Answer.{Answer, given, denied}
 use Rattle.search.specs.Answer.{Counts}
-use Rattle.host.specs.Word.{first, counts, refusedWord, verdictWord, answerWord}
-use Rattle.host.specs.Reading.{numberPart, kindPart, firstPart, secondPart, placeFrom, answerFrom, verdictFrom, answerIn, verdictIn, valueFrom, countsFrom}
+use Rattle.host.specs.Word.{first, long, counts, refusedWord, verdictWord, answerWord}
+use Rattle.host.specs.Reading.{numberPart, kindPart, firstPart, secondPart, placeFrom, answerFrom, verdictFrom, answerIn, verdictIn, valueFrom, longFrom, countsFrom}
 
 -- ---- parts that fit
 
@@ -36,7 +36,11 @@ pub data AnswerFits {Told : Type 0} (Small : Told → Type 0) : Answer Told → 
 abbrev pub In16 : ℕ → Type 0
 In16 n = n < 65536
 
--- and so have both counts
+-- a long length has 32
+abbrev pub In32 : ℕ → Type 0
+In32 n = n < 4294967296
+
+-- both counts have 16 each
 abbrev pub BothIn16 : Counts → Type 0
 BothIn16 c = (c .strains < 65536) × (c .measured < 65536)
 
@@ -103,6 +107,18 @@ pub reads-value : Reads In16 first valueFrom
 unfolding answerIn answerFrom
 reads-value = record {
   reads = λ n h. let q = parts (first n) 0 0 n 0 (omega arith) (omega arith) (omega arith) h (omega arith) in rw (q .isNumber) (ap given (q .isFirst));
+}
+
+-- a number from its lower 16 bits and what is above them
+halves : (n : ℕ) → longFrom (n % 65536) (n / 65536) ≡ n
+halves n = omega arith
+
+pub reads-long : Reads In32 long longFrom
+unfolding answerIn answerFrom
+reads-long = record {
+  reads = λ n h.
+      let q = parts (long n) 0 0 (n % 65536) (n / 65536) (omega arith) (omega arith) (omega arith) (omega arith) (omega arith) in
+      rw (q .isNumber) (ap given (ap₂ longFrom (q .isFirst) (q .isSecond) ∙ halves n));
 }
 
 pub reads-counts : Reads BothIn16 counts countsFrom

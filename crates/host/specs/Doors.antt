@@ -4,11 +4,11 @@ use mathlib.Core.List.{List}
 use Prim.Native.Nat.{ℕ}
 use Rattle.image.specs.Answer.{Outcome}
 use Rattle.search.specs.Answer as search
-use Rattle.host.specs.Word.{first, answerWord}
+use Rattle.host.specs.Word.{answerWord}
 
--- of a call that writes to the front of one buffer
-pub record Wrote (o : Outcome) (word : ℕ) (buffer : List ℕ) : Type 0 where
-  pub isWord : word ≡ answerWord first (o .answer)
+-- of a call that writes to the front of one buffer, and whose length is told by `told`
+pub record Wrote (told : ℕ → ℕ) (o : Outcome) (word : ℕ) (buffer : List ℕ) : Type 0 where
+  pub isWord : word ≡ answerWord told (o .answer)
   pub isBuffer : buffer ≡ o .buffer
 
 -- of a search, whose values are told by `told`

@@ -1,5 +1,5 @@
 -- How a program in C takes an answer word apart. Assumes nothing.
-use Prim.Native.Nat.{ℕ, zero, suc, _/_, _%_}
+use Prim.Native.Nat.{ℕ, zero, suc, _+_, _*_, _/_, _%_}
 use Rattle.image.specs.declared.refusal.Place.{Place}
 use Rattle.image.specs.declared.refusal.Place.the-variants.{None, Record, Pair}
 use Rattle.image.specs.Verdict.{Verdict, accepted, refused}
@@ -41,9 +41,12 @@ answerIn told w = answerFrom told (numberPart w) (kindPart w) (firstPart w) (sec
 unfoldable pub verdictIn : ℕ → Verdict
 verdictIn w = verdictFrom (numberPart w) (kindPart w) (firstPart w) (secondPart w)
 
--- what is told: a length or a count of places, from the first value; both counts of a search within a radius
+-- what is told: a length or a count of places, from the first value; a long length, from both; both counts of a search within a radius
 abbrev pub valueFrom : ℕ → ℕ → ℕ
 valueFrom first second = first
+
+abbrev pub longFrom : ℕ → ℕ → ℕ
+longFrom first second = first + 65536 * second
 
 abbrev pub countsFrom : ℕ → ℕ → Counts
 countsFrom first second = record { strains = first; measured = second }

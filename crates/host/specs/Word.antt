@@ -1,6 +1,6 @@
 -- The answer word of the C interface: 64 bits that tell an answer whole. Bits 0..7 the refusal number, 0 where nothing was refused.
 -- Refused: bits 8..15 the kind of place, 16..31 its record, of a pair the earlier one, 32..47 the later one. Not refused: bits 16..31 the
--- first value told, 32..47 the second. Assumes nothing.
+-- first value told, 32..47 the second; a long length takes both, its lower 16 bits as the first value. Assumes nothing.
 use Prim.Native.Nat.{ℕ, _+_, _*_, _%_}
 use Rattle.image.specs.declared.refusal.Place.{Place}
 use Rattle.image.specs.declared.refusal.Place.the-variants.{None, Record, Pair}
@@ -14,6 +14,10 @@ first n = 65536 * (n % 65536)
 
 abbrev pub second : ℕ → ℕ
 second n = 4294967296 * (n % 65536)
+
+-- a number of 32 bits from bit 16 on
+abbrev pub long : ℕ → ℕ
+long n = 65536 * (n % 4294967296)
 
 abbrev pub placeWord : Place → ℕ
 placeWord None = 0

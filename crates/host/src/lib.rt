@@ -4,8 +4,9 @@ ghost use mathlib.Core.Path.{_≡_};
 ghost use Rattle.checker.specs.Check.{checkOf};
 ghost use Rattle.build.specs.Calls.{startOf, addOf, fileOf};
 ghost use Rattle.search.specs.Calls.{sittingOf, withinOf};
+ghost use Rattle.text.specs.Calls.{listOf};
 ghost use Rattle.short.specs.Short.{ShortGives};
-ghost use Rattle.host.specs.Word.{first, counts, verdictWord};
+ghost use Rattle.host.specs.Word.{first, long, counts, verdictWord};
 ghost use Rattle.host.specs.Doors.{Wrote, Searched};
 use checker::Checked;
 
@@ -31,7 +32,7 @@ pub extern "C" fn kw_start(
     profile: &[i16],
     buffer: &mut [u8],
 ) -> u64
-    ensures { λ r. ⌜ Wrote (startOf wells metric code (now (profile .entry)) (now (buffer .entry))) r (now (buffer .exit)) ⌝ }
+    ensures { λ r. ⌜ Wrote first (startOf wells metric code (now (profile .entry)) (now (buffer .entry))) r (now (buffer .exit)) ⌝ }
 {
     word::answered(build::start(wells, metric, code, profile, buffer))
 }
@@ -39,7 +40,7 @@ pub extern "C" fn kw_start(
 // A strain added to the library that is the first `stated` bytes of the buffer.
 #[no_mangle]
 pub extern "C" fn kw_add(buffer: &mut [u8], stated: usize, code: u32, profile: &[i16]) -> u64
-    ensures { λ r. ⌜ Wrote (addOf (now (buffer .entry)) stated code (now (profile .entry))) r (now (buffer .exit)) ⌝ }
+    ensures { λ r. ⌜ Wrote first (addOf (now (buffer .entry)) stated code (now (profile .entry))) r (now (buffer .exit)) ⌝ }
 {
     word::answered(build::add(buffer, stated, code, profile))
 }
@@ -47,9 +48,17 @@ pub extern "C" fn kw_add(buffer: &mut [u8], stated: usize, code: u32, profile: &
 // A library's filing form, in the front of the buffer.
 #[no_mangle]
 pub extern "C" fn kw_file(image: &[u8], buffer: &mut [u8]) -> u64
-    ensures { λ r. ⌜ Wrote (fileOf (now (image .entry)) (now (buffer .entry))) r (now (buffer .exit)) ⌝ }
+    ensures { λ r. ⌜ Wrote first (fileOf (now (image .entry)) (now (buffer .entry))) r (now (buffer .exit)) ⌝ }
 {
     word::answered(build::file(image, buffer))
+}
+
+// A library's listing, in the front of the buffer.
+#[no_mangle]
+pub extern "C" fn kw_list(image: &[u8], buffer: &mut [u8]) -> u64
+    ensures { λ r. ⌜ Wrote long (listOf (now (image .entry)) (now (buffer .entry))) r (now (buffer .exit)) ⌝ }
+{
+    word::listed(text::list(image, buffer))
 }
 
 // The nearest strains of each plate of a sitting.

@@ -4,7 +4,7 @@ ghost use Prim.Native.Nat.{_<_};
 ghost use Rattle.image.specs.Refusals.{numberOf, placeOf};
 ghost use Rattle.image.specs.Answer.{answerOf};
 ghost use Rattle.search.specs.Answer.{sittingAnswer, withinAnswer};
-ghost use Rattle.host.specs.Word.{first as Word·first, second as Word·second, placeWord, refusedWord, answerWord, counts};
+ghost use Rattle.host.specs.Word.{first as Word·first, second as Word·second, long as Word·long, placeWord, refusedWord, answerWord, counts};
 use image::refusal::Answered;
 use image::refusal::Place;
 use image::refusal::Refusal;
@@ -21,6 +21,12 @@ fn second(n: usize) -> u64
     ensures { λ r. ⌜ (r ≡ Word·second n) × (r < 281474976710656) ⌝ }
 {
     4294967296 * (n as u64 % 65536)
+}
+
+fn long(n: usize) -> u64
+    ensures { λ r. ⌜ r ≡ Word·long n ⌝ }
+{
+    65536 * (n as u64 % 4294967296)
 }
 
 fn place(told: Place) -> u64
@@ -45,6 +51,16 @@ pub fn answered(told: Answered) -> u64
 {
     match told {
         Answered::Length(length) => first(length),
+        Answered::Refused(refused) => refusal(refused),
+    }
+}
+
+// A listing can take 147456 bytes, so its length needs the bits of both values.
+pub fn listed(told: Answered) -> u64
+    ensures { λ r. ⌜ r ≡ answerWord Word·long (answerOf told) ⌝ }
+{
+    match told {
+        Answered::Length(length) => long(length),
         Answered::Refused(refused) => refusal(refused),
     }
 }

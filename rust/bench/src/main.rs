@@ -6,6 +6,7 @@ mod checks;
 mod distances;
 mod goals;
 mod harness;
+mod lists;
 mod plain_c;
 mod scan;
 mod shorts;
@@ -66,5 +67,6 @@ fn time(effort: &Effort, random: &mut Random) {
     sittings::time(&mut table, &cases, effort.rounds);
     withins::time(&mut table, &cases, effort.rounds);
     shorts::time(&mut table, &cases, effort.rounds);
+    lists::time(&mut table, &cases, effort.rounds);
     goals::tell(&table);
 }

@@ -3,6 +3,7 @@ use plain::{
     data::{bytes_of, Random},
     images::{deepest, made, Data, Kind, Library, Order},
     layout::{growth, length},
+    LISTING_BYTES,
 };
 use std::arch::asm;
 
@@ -11,7 +12,7 @@ const MOST: usize = 16_384;
 const ROOM: usize = 1 << 20;
 const PAINT: u8 = 0xa5;
 
-const CALLS: [&str; 7] = ["check", "start", "add", "filing", "sitting", "within", "short"];
+const CALLS: [&str; 8] = ["check", "start", "add", "filing", "list", "sitting", "within", "short"];
 
 /// Prints the most stack that each call uses, in full libraries of every width and metric and in the deepest.
 pub fn measure(random: &mut Random) -> Result<(), String> {
@@ -40,13 +41,14 @@ fn in_library(mut tree: Library, random: &mut Random) -> [usize; CALLS.len()] {
     let (mut buffer, stated) = (tree.bytes(), image.len() - growth(wells));
     buffer.resize(image.len(), 0);
     let plates: Vec<i16> = (0..64 * wells).map(|_| random.well()).collect();
-    let (mut lone, mut form) = (vec![0; length(1, wells)], vec![0; image.len()]);
+    let (mut lone, mut form, mut room) = (vec![0; length(1, wells)], vec![0; image.len()], vec![0; LISTING_BYTES]);
     let (mut codes, mut distances, mut out) = (vec![0; 64 * 32], vec![0; 64 * 32], [0; 40]);
     [
         used(&mut || assert!(!proved::check(&image).refused())),
         used(&mut || assert!(!proved::start(wells as u32, metric as u32, new.code, &new.profile, &mut lone).refused())),
         used(&mut || assert!(!proved::add(&mut buffer, stated, new.code, &new.profile).refused())),
         used(&mut || assert!(!proved::file(&image, &mut form).refused())),
+        used(&mut || assert!(!proved::list(&image, &mut room).refused())),
         used(&mut || assert!(!proved::sitting(&image, &plates, 32, &mut codes, &mut distances).refused())),
         used(&mut || assert!(!proved::within(&image, &plates[..wells], u32::MAX, &mut codes, &mut distances).refused())),
         used(&mut || assert!(!proved::short(&image, &bytes_of(&plates[..wells]), &mut out).refused())),

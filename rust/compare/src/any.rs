@@ -11,10 +11,14 @@ pub use starts::any_start;
 pub use withins::any_within;
 
 use crate::call::{Call, Rooms};
-use plain::{data::Random, lent::any_room};
+use plain::{data::Random, lent::any_room, LISTING_BYTES};
 
 pub fn any_filing(image: Vec<u8>, random: &mut Random) -> Call {
     Call::Filing { room: any_room(image.len(), random), image }
+}
+
+pub fn any_list(image: Vec<u8>, random: &mut Random) -> Call {
+    Call::List { room: any_room(LISTING_BYTES, random), image }
 }
 
 /// A code, 0 now and then.

@@ -4,7 +4,7 @@ use crate::{
     compared::compared,
     tally::Tallies,
 };
-use plain::{data::Random, images::example};
+use plain::{data::Random, images::example, LISTING_BYTES};
 
 pub fn compare(tallies: &mut Tallies, random: &mut Random) -> Result<(), String> {
     let image = example().bytes();
@@ -20,10 +20,13 @@ pub fn compare(tallies: &mut Tallies, random: &mut Random) -> Result<(), String>
 
 fn each_call(image: Vec<u8>, tallies: &mut Tallies, random: &mut Random) -> Result<(), String> {
     let length = image.len();
+    // a room for any listing is long, so that an image that is refused before gets none
+    let listing = if plain::check(&image).refused() { 0 } else { LISTING_BYTES };
     let calls = [
         Call::Check { image: Vec::new() },
         Call::Add { image: Vec::new(), stated: 0, code: 105, profile: vec![12], room: length + 10 },
         Call::Filing { image: Vec::new(), room: length },
+        Call::List { image: Vec::new(), room: listing },
         Call::Sitting { image: Vec::new(), plates: vec![7, -3], k: 3, rooms: Rooms::of(6) },
         Call::Within { image: Vec::new(), plate: vec![7], radius: 4, rooms: Rooms::of(4) },
         Call::Short { image: Vec::new(), plate: vec![7, 0], room: 40 },

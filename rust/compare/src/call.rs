@@ -7,13 +7,14 @@ pub enum Name {
     Start,
     Add,
     Filing,
+    List,
     Sitting,
     Within,
     Short,
 }
 
 impl Name {
-    pub const ALL: [Name; 7] = [Name::Check, Name::Start, Name::Add, Name::Filing, Name::Sitting, Name::Within, Name::Short];
+    pub const ALL: [Name; 8] = [Name::Check, Name::Start, Name::Add, Name::Filing, Name::List, Name::Sitting, Name::Within, Name::Short];
 }
 
 /// Slices that are only read are given whole. Of those that are written to, the room: what stands in them is random.
@@ -38,6 +39,10 @@ pub enum Call {
         room: usize,
     },
     Filing {
+        image: Vec<u8>,
+        room: usize,
+    },
+    List {
         image: Vec<u8>,
         room: usize,
     },
@@ -80,6 +85,7 @@ impl Call {
             Call::Start { .. } => Name::Start,
             Call::Add { .. } => Name::Add,
             Call::Filing { .. } => Name::Filing,
+            Call::List { .. } => Name::List,
             Call::Sitting { .. } => Name::Sitting,
             Call::Within { .. } => Name::Within,
             Call::Short { .. } => Name::Short,
@@ -93,6 +99,7 @@ impl Call {
             Call::Check { image }
             | Call::Add { image, .. }
             | Call::Filing { image, .. }
+            | Call::List { image, .. }
             | Call::Sitting { image, .. }
             | Call::Within { image, .. }
             | Call::Short { image, .. } => image,
@@ -108,6 +115,7 @@ impl Call {
             }
             Call::Check { image }
             | Call::Filing { image, .. }
+            | Call::List { image, .. }
             | Call::Sitting { image, .. }
             | Call::Within { image, .. }
             | Call::Short { image, .. } => *image = new,
@@ -134,7 +142,7 @@ impl fmt::Display for Call {
             Call::Add { stated, code, profile, room, .. } => {
                 write!(f, " of code {code}, profile {profile:?}, to {stated} bytes in a buffer of {room}")
             }
-            Call::Filing { room, .. } => write!(f, " with {room} bytes of room"),
+            Call::Filing { room, .. } | Call::List { room, .. } => write!(f, " with {room} bytes of room"),
             Call::Sitting { plates, k, rooms, .. } => write!(f, " of plates {plates:?}, {k} neighbours, {rooms}"),
             Call::Within { plate, radius, rooms, .. } => write!(f, " {radius} of plate {plate:?}, {rooms}"),
             Call::Short { plate, room, .. } => write!(f, " of plate {}, {room} bytes of room", hex(plate)),

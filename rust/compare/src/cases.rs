@@ -1,10 +1,11 @@
-//! C1 to C12 of document 01, each by name, as the document says them and by nothing else. Plain Rust is held to them too.
+//! The listing of document 01's example and C1 to C12, each by name, as the document says them and by nothing else. Plain Rust is held to them too.
 use crate::calls::{Calls, PLAIN, PROVED};
-use plain::{images::example, level, verdict::Verdict};
+use plain::{images::example, level, verdict::Verdict, LISTING_BYTES};
 
 type Case = (&'static str, fn(&Calls) -> Result<(), String>);
 
-const CASES: [Case; 10] = [
+const CASES: [Case; 11] = [
+    ("the listing", listed),
     ("C1", |by| nearest(by, 3, &[103, 102, 104], &[3, 4, 4])),
     ("C2", |by| nearest(by, 2, &[103, 102], &[3, 4])),
     ("C3", |by| nearest(by, 5, &[103, 102, 104, 101, 0], &[3, 4, 4, 7, 0])),
@@ -40,6 +41,14 @@ fn is<T: PartialEq + std::fmt::Debug>(told: T, right: T) -> Result<(), String> {
     } else {
         Err(format!("{told:?}, where {right:?} is right"))
     }
+}
+
+fn listed(by: &Calls) -> Result<(), String> {
+    let lines = "wells 1 metric 1 count 4 root 101\n101 101 4 0\n102 101 1 3\n103 101 3 10\n104 103 -1 11\n";
+    let mut room = vec![9; LISTING_BYTES];
+    is((by.list)(&example().bytes(), &mut room), Verdict::made(lines.len()))?;
+    is(&room[..lines.len()], lines.as_bytes())?;
+    is(room[lines.len()], 9)
 }
 
 /// C1 to C3: the nearest of plate 7.

@@ -64,6 +64,8 @@ fn with_fault(call: &Call, tree: &Library, number: usize, random: &mut Random) -
             return Some(Call::Add { stated: [room + 1, usize::MAX][random.below(2)], image, room, code, profile });
         }
     }
-    let image = (0..20).find_map(|_| planted(call.image(), number, random))?;
+    // an image that is longer than an add's buffer has a fault of number 1
+    let fits = |image: &Vec<u8>| number == 1 || !matches!(call, Call::Add { room, .. } if *room < image.len());
+    let image = (0..20).find_map(|_| planted(call.image(), number, random).filter(fits))?;
     Some(call.clone().with_image(image))
 }

@@ -8,6 +8,7 @@ use plain::{
     data::Random,
     images::{any_library, Library},
     layout::growth,
+    LISTING_BYTES,
 };
 
 /// Every call that is given an image, on one library. The short call has its own lengths.
@@ -20,6 +21,7 @@ pub fn compare(tallies: &mut Tallies, random: &mut Random) -> Result<(), String>
         image.resize(length, 0);
         calls.push(Call::Check { image: image.clone() });
         calls.extend(around(length).map(|room| Call::Filing { image: image.clone(), room }));
+        calls.extend(around(LISTING_BYTES).map(|room| Call::List { image: image.clone(), room }));
         calls.extend(searches(&tree, &image, random));
     }
     calls.iter().try_for_each(|call| compared(call, tallies, random).map(|_| ()))

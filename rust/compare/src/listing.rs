@@ -78,14 +78,14 @@ fn inputs(random: &mut Random) -> Vec<(String, Vec<u8>)> {
 }
 
 /// 1,024 strains of 16 wells.
-fn largest(random: &mut Random) -> Library {
+pub fn largest(random: &mut Random) -> Library {
     let tree = made(Kind { strains: 1024, wells: 16, metric: 1, data: Data::Uniform, codes: Order::Random }, random);
     any_shape(tree, random)
 }
 
 /// As large, every number in it as long as it may be: ten digits for a code, two signs for a level, six for a value. Profiles so far apart
 /// have levels above 9.
-fn longest(random: &mut Random) -> Library {
+pub fn longest(random: &mut Random) -> Library {
     let mut code = 1_000_000_000;
     let mut strain = || {
         code += 1 + random.below(3_000_000) as u32;

@@ -10,6 +10,7 @@ mod distances;
 mod faults;
 mod lengths;
 mod listing;
+mod lists;
 mod memory;
 mod options;
 mod order;
@@ -44,7 +45,7 @@ fn main() -> ExitCode {
 fn calls(options: &Options) -> Result<(), String> {
     println!("seed {}", options.seed);
     cases::compare()?;
-    println!("C1 to C12: as document 01 says");
+    println!("the listing and C1 to C12: as document 01 says");
     let many = if options.quick { 1 } else { 10 };
     let count = distances::compare(20_000 * many, &mut Random::new(options.seed))?;
     println!("distances and levels: {count} alike");
@@ -53,6 +54,7 @@ fn calls(options: &Options) -> Result<(), String> {
     part("faults", 2 * many, options, |round, random| faults::compare(round, &mut tallies, random))?;
     part("roots", 10 * many, options, |_, random| roots::compare(&mut tallies, random))?;
     part("lengths", 10 * many, options, |_, random| lengths::compare(&mut tallies, random))?;
+    part("long listings", 1, options, |_, random| lists::compare(&mut tallies, random))?;
     part("short calls", 10 * many, options, |_, random| shorts::compare(&mut tallies, random))?;
     part("random calls", 1000 * many, options, |round, random| random::compare(round, &mut tallies, random))?;
     println!("{tallies}");

@@ -13,7 +13,7 @@ pub struct Memory {
     values: Lent<i16>,
     /// A plate as bytes.
     plate: Lent<u8>,
-    /// The buffer of an image, or what the short call writes to.
+    /// The buffer of an image, or what a list or the short call writes to.
     buffer: Lent<u8>,
     codes: Lent<u32>,
     distances: Lent<u32>,
@@ -30,7 +30,7 @@ impl Memory {
         let (values, plate, room, rooms): (&[i16], &[u8], _, _) = match call {
             Call::Check { .. } => (&[], &[], 0, Rooms::of(0)),
             Call::Start { profile, room, .. } | Call::Add { profile, room, .. } => (profile, &[], *room, Rooms::of(0)),
-            Call::Filing { room, .. } => (&[], &[], *room, Rooms::of(0)),
+            Call::Filing { room, .. } | Call::List { room, .. } => (&[], &[], *room, Rooms::of(0)),
             Call::Sitting { plates: values, rooms, .. } | Call::Within { plate: values, rooms, .. } => (values, &[], 0, *rooms),
             Call::Short { plate, room, .. } => (&[], plate, *room, Rooms::of(0)),
         };
@@ -56,6 +56,7 @@ impl Memory {
             Call::Start { wells, metric, code, .. } => (by.start)(*wells, *metric, *code, values.slice(), buffer.slice()),
             Call::Add { stated, code, .. } => (by.add)(buffer.slice(), *stated, *code, values.slice()),
             Call::Filing { .. } => (by.file)(image.slice(), buffer.slice()),
+            Call::List { .. } => (by.list)(image.slice(), buffer.slice()),
             Call::Sitting { k, .. } => (by.sitting)(image.slice(), values.slice(), *k, codes.slice(), distances.slice()),
             Call::Within { radius, .. } => (by.within)(image.slice(), values.slice(), *radius, codes.slice(), distances.slice()),
             Call::Short { .. } => (by.short)(image.slice(), plate.slice(), buffer.slice()),
@@ -97,7 +98,7 @@ impl Written {
         let (bytes, places) = match call {
             _ if answer.refused() => (0, 0),
             Call::Check { .. } => (0, 0),
-            Call::Start { .. } | Call::Add { .. } | Call::Filing { .. } => (answer.length(), 0),
+            Call::Start { .. } | Call::Add { .. } | Call::Filing { .. } | Call::List { .. } => (answer.length(), 0),
             // the image is accepted, so that its third byte tells the wells
             Call::Sitting { image, plates, k, .. } => (0, plates.len() / image[2] as usize * *k as usize),
             Call::Within { .. } => (0, answer.strains()),

@@ -6,7 +6,7 @@ pub fn order(name: Name) -> Vec<usize> {
         Name::Start => return vec![3, 4, 17, 18, 16],
         Name::Check => &[],
         Name::Add => &[17, 18, 19, 20, 16],
-        Name::Filing => &[16],
+        Name::Filing | Name::List => &[16],
         Name::Sitting => &[14, 15, 16],
         Name::Within | Name::Short => &[14, 16],
     };

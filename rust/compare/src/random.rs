@@ -1,6 +1,6 @@
 //! Any calls on any libraries.
 use crate::{
-    any::{any_add, any_filing, any_short, any_sitting, any_start, any_within},
+    any::{any_add, any_filing, any_list, any_short, any_sitting, any_start, any_within},
     call::Call,
     compared::{compared, expected},
     tally::Tallies,
@@ -28,6 +28,10 @@ pub fn compare(round: usize, tallies: &mut Tallies, random: &mut Random) -> Resu
     }
     for _ in 0..3 {
         compared(&any_filing(any_form(&image, random), random), tallies, random)?;
+    }
+    // a room for a listing takes its time to lend
+    if round.is_multiple_of(4) {
+        compared(&any_list(any_form(&image, random), random), tallies, random)?;
     }
     one_form(tree, tallies, random)
 }

@@ -1,6 +1,6 @@
 //! Every level that a root may have, of a lone root and of one with others below it, and the first on each side that it may not.
 use crate::{
-    any::{any_add, any_filing, any_short, any_sitting, any_within},
+    any::{any_add, any_filing, any_list, any_short, any_sitting, any_within},
     call::Call,
     compared::{compared, expected},
     tally::Tallies,
@@ -31,6 +31,7 @@ fn other_calls(tree: &Library, tallies: &mut Tallies, random: &mut Random) -> Re
     let image = tree.bytes();
     compared(&any_add(tree, image.clone(), random), tallies, random)?;
     compared(&any_filing(image.clone(), random), tallies, random)?;
+    compared(&any_list(image.clone(), random), tallies, random)?;
     compared(&any_sitting(tree, image.clone(), random), tallies, random)?;
     compared(&any_short(tree, image.clone(), random), tallies, random)?;
     // what is measured hangs on the root's reach

@@ -9,7 +9,7 @@ struct Tally {
     counts: Vec<(Verdict, usize)>,
 }
 
-pub struct Tallies([Tally; 7]);
+pub struct Tallies([Tally; 8]);
 
 impl Tallies {
     pub fn new() -> Self {

@@ -3,8 +3,8 @@ use std::{mem, ptr, slice};
 
 const PAGE: usize = 4096;
 
-/// The bytes that can be lent, 16 pages.
-pub const ROOM: usize = 16 * PAGE;
+/// The bytes that can be lent, 40 pages: enough for any listing.
+pub const ROOM: usize = 40 * PAGE;
 
 mod c {
     pub const NO_ACCESS: i32 = 0;

@@ -13,7 +13,7 @@ mod options;
 mod tally;
 
 use call::{judge, Call, Memory};
-use calls::{Add, Check, File, Short, Sitting, Start, Within};
+use calls::{Add, Check, File, List, Short, Sitting, Start, Within};
 use corpus::Corpus;
 use guard::{Guarded, Side};
 use options::{End, Options, USAGE};
@@ -75,13 +75,14 @@ impl Fuzzer {
         for guarded in &mut self.memory {
             guarded.turn([Side::Before, Side::Behind][self.random.below(2)]);
         }
-        match self.random.below(7) {
+        match self.random.below(8) {
             0 => self.call::<Check>(number),
             1 => self.call::<Start>(number),
             2 => self.call::<Add>(number),
             3 => self.call::<File>(number),
-            4 => self.call::<Sitting>(number),
-            5 => self.call::<Within>(number),
+            4 => self.call::<List>(number),
+            5 => self.call::<Sitting>(number),
+            6 => self.call::<Within>(number),
             _ => self.call::<Short>(number),
         }
     }

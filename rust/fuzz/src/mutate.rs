@@ -1,9 +1,9 @@
 //! Images changed, by bytes, by fields, by counts and by lengths.
-use crate::{guard::ROOM, image};
+use crate::image;
 use plain::{data::Random, images::damaged};
 
 /// The longest that comes out, well above the longest image, and leaving room in guarded memory for a strain and some bytes more.
-const LONGEST: usize = ROOM - 4096;
+const LONGEST: usize = 61_440;
 
 /// An image, or what became of one, changed once or a few times. Some of it may come from another.
 pub fn mutated(image: &[u8], other: &[u8], random: &mut Random) -> Vec<u8> {

@@ -7,6 +7,8 @@
 //! | 16..31 | the record; of a pair the earlier record | first value |
 //! | 32..47 | of a pair the later record; else 0 | second value |
 //! | 48..63 | 0 | 0 |
+//!
+//! A listing's length takes both values: the first is its lower 16 bits, the second its upper ones.
 use crate::refusal::{Place, Reason, Refusal};
 
 /// The two values that a call tells when it is not refused.
@@ -27,6 +29,12 @@ pub fn one_value(word: u64) -> Result<usize, Refusal> {
         Told { first, second: 0 } => Ok(first.into()),
         _ => broken(word),
     }
+}
+
+/// The answer of a call that tells one value of 32 bits.
+pub fn long_value(word: u64) -> Result<usize, Refusal> {
+    let Told { first, second } = answer(word)?;
+    Ok(usize::from(first) | usize::from(second) << 16)
 }
 
 /// The answer of a call that tells none.
@@ -112,6 +120,14 @@ mod tests {
     #[should_panic(expected = "answered 0x100000000,")]
     fn one_value_is_not_two() {
         _ = one_value(0x1_0000_0000);
+    }
+
+    #[test]
+    fn a_long_value_takes_both() {
+        assert_eq!(long_value(0x57_0000), Ok(0x57));
+        assert_eq!(long_value(0x0000_0002_0003_0000), Ok(0x2_0003));
+        assert_eq!(long_value(0x0000_ffff_fffe_0000), Ok(0xffff_fffe));
+        assert_eq!(long_value(0x10), Err(Refusal { reason: Reason::Room, place: Place::None }));
     }
 
     #[test]

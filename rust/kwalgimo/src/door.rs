@@ -17,6 +17,7 @@ mod c {
         ) -> u64;
         pub fn kw_add(buffer: *mut u8, buffer_len: usize, image_len: usize, code: u32, profile: *const i16, profile_len: usize) -> u64;
         pub fn kw_file(image: *const u8, image_len: usize, buffer: *mut u8, buffer_len: usize) -> u64;
+        pub fn kw_list(image: *const u8, image_len: usize, buffer: *mut u8, buffer_len: usize) -> u64;
         pub fn kw_sitting(
             image: *const u8,
             image_len: usize,
@@ -58,6 +59,10 @@ pub fn add(buffer: &mut [u8], image_len: usize, code: u32, profile: &[i16]) -> u
 
 pub fn file(image: &[u8], buffer: &mut [u8]) -> u64 {
     unsafe { c::kw_file(image.as_ptr(), image.len(), buffer.as_mut_ptr(), buffer.len()) }
+}
+
+pub fn list(image: &[u8], buffer: &mut [u8]) -> u64 {
+    unsafe { c::kw_list(image.as_ptr(), image.len(), buffer.as_mut_ptr(), buffer.len()) }
 }
 
 pub fn sitting(image: &[u8], plates: &[i16], neighbours: u32, codes: &mut [u32], distances: &mut [u32]) -> u64 {

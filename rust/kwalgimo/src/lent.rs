@@ -1,7 +1,7 @@
 //! The calls on lent memory. Any bytes, numbers and lengths are allowed: what does not fit is refused by its number in document 01, and
 //! then nothing that was lent is changed.
 use crate::{
-    answer::{answer, no_value, one_value, short as short_answer},
+    answer::{answer, long_value, no_value, one_value, short as short_answer},
     door,
     refusal::{Reason, Refusal},
 };
@@ -24,6 +24,15 @@ pub fn add(buffer: &mut [u8], image_len: usize, code: u32, profile: &[i16]) -> R
 /// Filing: writes the image's filing form at the front of the buffer and gives its length, which is the image's.
 pub fn file(image: &[u8], buffer: &mut [u8]) -> Result<usize, Refusal> {
     one_value(door::file(image, buffer))
+}
+
+/// The bytes that every listing fits into.
+pub const LISTING_BYTES: usize = 147_456;
+
+/// The listing: writes the library as text, in ASCII, at the front of the room and gives the text's length. The room needs
+/// [`LISTING_BYTES`], also where the listing is shorter.
+pub fn list(image: &[u8], room: &mut [u8]) -> Result<usize, Refusal> {
+    long_value(door::list(image, room))
 }
 
 /// The sitting: the nearest strains of 1 to 64 plates, one plate's values after the other's. Plate j owns the places from j times

@@ -7,12 +7,14 @@
 mod answer;
 #[allow(unsafe_code)]
 mod door;
+mod fields;
 mod lent;
 mod library;
 mod refusal;
 mod search;
 
-pub use lent::{add, check, file, short, sitting, start, within, Inside};
+pub use fields::{Header, Record, EDITIONS, MOST_BYTES};
+pub use lent::{add, check, file, list, short, sitting, start, within, Inside, LISTING_BYTES};
 pub use library::{Library, Metric, Strain};
 pub use refusal::{Place, Reason, Refusal};
-pub use search::{Match, Near, Sitting};
+pub use search::{Match, Near, Sitting, MOST_DISTANCE, MOST_NEIGHBOURS, MOST_PLATES};

@@ -1,5 +1,8 @@
 //! A library that owns its image.
-use crate::{lent, Refusal};
+use crate::{
+    fields::{HEADER, NODE},
+    lent, Record, Refusal,
+};
 
 /// How the distance of two profiles is measured.
 #[derive(Clone, Copy, Debug, PartialEq, Eq, Hash)]
@@ -9,6 +12,21 @@ pub enum Metric {
     CityBlock = 1,
     /// Metric 2: the largest of the wells' absolute differences.
     Largest = 2,
+}
+
+impl Metric {
+    /// The metric with this number, if there is one.
+    pub fn numbered(number: u8) -> Option<Self> {
+        [Metric::CityBlock, Metric::Largest].into_iter().find(|metric| *metric as u8 == number)
+    }
+
+    /// Its name in words.
+    pub fn name(self) -> &'static str {
+        match self {
+            Metric::CityBlock => "city block",
+            Metric::Largest => "largest difference",
+        }
+    }
 }
 
 /// One strain of a library.
@@ -47,10 +65,6 @@ pub struct Strain {
 pub struct Library {
     image: Vec<u8>,
 }
-
-/// Bytes of an image: its header, and one record's node.
-const HEADER: usize = 16;
-const NODE: usize = 8;
 
 #[expect(clippy::len_without_is_empty, reason = "a library has at least one strain")]
 impl Library {
@@ -98,6 +112,31 @@ impl Library {
         Library { image }
     }
 
+    /// The library as text: a header, and one line for each record with its code, its parent's code, its level and its values.
+    ///
+    /// ```
+    /// # use kwalgimo::{Library, Metric};
+    /// let mut library = Library::start(1, Metric::CityBlock, 101, &[0])?;
+    /// library.add(102, &[3])?;
+    /// library.add(103, &[10])?;
+    /// library.add(104, &[11])?;
+    /// assert_eq!(
+    ///     library.listing(),
+    ///     "wells 1 metric 1 count 4 root 101\n\
+    ///      101 101 4 0\n\
+    ///      102 101 1 3\n\
+    ///      103 101 3 10\n\
+    ///      104 103 -1 11\n"
+    /// );
+    /// # Ok::<(), kwalgimo::Refusal>(())
+    /// ```
+    pub fn listing(&self) -> String {
+        let mut room = vec![0; lent::LISTING_BYTES];
+        let length = lent::list(&self.image, &mut room).expect("an accepted image is listed where there is room");
+        room.truncate(length);
+        String::from_utf8(room).expect("a listing is ASCII")
+    }
+
     /// The image.
     pub fn bytes(&self) -> &[u8] {
         &self.image
@@ -109,10 +148,7 @@ impl Library {
     }
 
     pub fn metric(&self) -> Metric {
-        match self.image[3] {
-            1 => Metric::CityBlock,
-            _ => Metric::Largest,
-        }
+        Metric::numbered(self.image[3]).expect("an accepted image has a metric")
     }
 
     /// How many strains it holds, 1 to 1,024.
@@ -131,12 +167,27 @@ impl Library {
     /// # Ok::<(), kwalgimo::Refusal>(())
     /// ```
     pub fn strains(&self) -> impl ExactSizeIterator<Item = Strain> + '_ {
-        let (nodes, profiles) = self.image[HEADER..].split_at(NODE * self.len());
-        let profiles = profiles.chunks_exact(2 * self.wells());
-        nodes.chunks_exact(NODE).zip(profiles).map(|(node, profile)| Strain {
-            code: u32::from_le_bytes([node[0], node[1], node[2], node[3]]),
-            profile: profile.chunks_exact(2).map(|well| i16::from_le_bytes([well[0], well[1]])).collect(),
-        })
+        self.records().map(|Record { code, profile, .. }| Strain { code, profile })
+    }
+
+    /// The record of the root, from which every strain is reached.
+    pub fn root(&self) -> usize {
+        u16::from_le_bytes([self.image[6], self.image[7]]).into()
+    }
+
+    /// Its strains and their places in the tree, record by record.
+    ///
+    /// ```
+    /// # use kwalgimo::{Library, Metric};
+    /// let mut library = Library::start(1, Metric::CityBlock, 101, &[0])?;
+    /// library.add(102, &[3])?;
+    /// let tree: Vec<_> = library.records().map(|record| (record.code, record.parent, record.level())).collect();
+    /// assert_eq!(tree, [(101, 0, 2), (102, 0, 1)]);
+    /// assert_eq!(library.root(), 0);
+    /// # Ok::<(), kwalgimo::Refusal>(())
+    /// ```
+    pub fn records(&self) -> impl ExactSizeIterator<Item = Record> + '_ {
+        (0..self.len()).map(|record| Record::of(&self.image, record).expect("an accepted image has the records it counts"))
     }
 }
 

@@ -67,8 +67,34 @@ impl Reason {
         Self::ALL.into_iter().find(|reason| reason.number() == number)
     }
 
+    /// Its name in a word or two.
+    pub fn name(self) -> &'static str {
+        match self {
+            Reason::Size => "size",
+            Reason::Edition => "edition",
+            Reason::Wells => "wells",
+            Reason::Metric => "metric",
+            Reason::Count => "count",
+            Reason::Offsets => "offsets",
+            Reason::Length => "length",
+            Reason::RootNumber => "root number",
+            Reason::Node => "node",
+            Reason::EqualCodes => "equal codes",
+            Reason::Level => "level",
+            Reason::Cover => "cover",
+            Reason::Separation => "separation",
+            Reason::Plate => "plate",
+            Reason::Neighbours => "neighbours",
+            Reason::Room => "room",
+            Reason::NewProfile => "new profile",
+            Reason::NewCode => "new code",
+            Reason::Held => "held profile",
+            Reason::Full => "full",
+        }
+    }
+
     /// What is wrong, for a person.
-    fn sentence(self) -> &'static str {
+    pub fn sentence(self) -> &'static str {
         match self {
             Reason::Size => "the image has fewer than 16 bytes or more than 40,976",
             Reason::Edition => "the image's edition is not 1",
@@ -152,9 +178,10 @@ mod tests {
     }
 
     #[test]
-    fn no_two_sentences_are_alike() {
+    fn no_two_sentences_or_names_are_alike() {
         for (at, reason) in Reason::ALL.into_iter().enumerate() {
             assert!(Reason::ALL[..at].iter().all(|other| other.sentence() != reason.sentence()), "{reason}");
+            assert!(Reason::ALL[..at].iter().all(|other| other.name() != reason.name()), "{reason}");
         }
     }
 

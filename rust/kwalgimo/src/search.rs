@@ -42,9 +42,12 @@ pub struct Near {
     pub measured: usize,
 }
 
-/// What a sitting may ask for.
-const PLATES: usize = 64;
-const NEIGHBOURS: usize = 32;
+/// How many plates a sitting takes.
+pub const MOST_PLATES: usize = 64;
+/// How many strains of each plate it can be asked for.
+pub const MOST_NEIGHBOURS: usize = 32;
+/// How far two profiles lie apart at most: 16 wells, with 65,535 between the values of each.
+pub const MOST_DISTANCE: u32 = 16 * 65_535;
 
 impl Library {
     /// The `k` nearest strains of 1 to 64 plates, one plate's values after the other's. Where the library holds fewer, all of them.
@@ -60,7 +63,7 @@ impl Library {
     /// ```
     pub fn nearest(&self, plates: &[i16], k: usize) -> Result<Sitting, Refusal> {
         // more of either is refused before the room is asked for
-        let room = (plates.len() / self.wells()).min(PLATES) * k.min(NEIGHBOURS);
+        let room = (plates.len() / self.wells()).min(MOST_PLATES) * k.min(MOST_NEIGHBOURS);
         let (mut codes, mut distances) = (vec![0; room], vec![0; room]);
         let filled = lent::sitting(self.bytes(), plates, number(k), &mut codes, &mut distances)?;
         let rows = codes.chunks_exact(k).zip(distances.chunks_exact(k));

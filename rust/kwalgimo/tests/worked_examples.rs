@@ -1,5 +1,5 @@
 //! The worked examples of document 01, through the owning type: one well, metric 1, unless it says otherwise.
-use kwalgimo::{Library, Match, Metric, Place, Reason, Refusal};
+use kwalgimo::{Library, Match, Metric, Place, Reason, Refusal, LISTING_BYTES};
 
 fn built(strains: &[(u32, i16)]) -> Library {
     let mut library = Library::start(1, Metric::CityBlock, strains[0].0, &[strains[0].1]).expect("one strain");
@@ -11,14 +11,9 @@ fn example() -> Library {
     built(&[(101, 0), (102, 3), (103, 10), (104, 11)])
 }
 
-/// Parent's record number and level, from a record's node in the image.
-fn node(library: &Library, record: usize) -> (u16, i32) {
-    let node = &library.bytes()[16 + 8 * record..][..8];
-    (u16::from_le_bytes([node[4], node[5]]), i32::from(node[6]) - 1)
-}
-
+/// Of each record its parent's and its level.
 fn nodes(library: &Library) -> Vec<(u16, i32)> {
-    (0..library.len()).map(|record| node(library, record)).collect()
+    library.records().map(|record| (record.parent, record.level())).collect()
 }
 
 fn found(pairs: &[(u32, u32)]) -> Vec<Match> {
@@ -28,10 +23,35 @@ fn found(pairs: &[(u32, u32)]) -> Vec<Match> {
 #[test]
 fn the_listing() {
     let library = example();
+    let lines = ["wells 1 metric 1 count 4 root 101", "101 101 4 0", "102 101 1 3", "103 101 3 10", "104 103 -1 11", ""];
+    assert_eq!(library.listing(), lines.join("\n"));
     assert_eq!((library.wells(), library.metric(), library.len()), (1, Metric::CityBlock, 4));
     let strains: Vec<_> = library.strains().map(|strain| (strain.code, strain.profile)).collect();
     assert_eq!(strains, [(101, vec![0]), (102, vec![3]), (103, vec![10]), (104, vec![11])]);
     assert_eq!(nodes(&library), [(0, 4), (0, 1), (0, 3), (2, -1)]);
+}
+
+#[test]
+fn the_listing_on_lent_memory() {
+    let (image, lines) = (example().bytes().to_vec(), example().listing());
+    let mut room = vec![0xee; LISTING_BYTES + 1];
+    assert_eq!(kwalgimo::list(&image, &mut room[..LISTING_BYTES - 1]), Err(Refusal { reason: Reason::Room, place: Place::None }));
+    assert_eq!(kwalgimo::list(&image[..55], &mut room), Err(Refusal { reason: Reason::Length, place: Place::None }));
+    assert!(room.iter().all(|byte| *byte == 0xee));
+    assert_eq!(kwalgimo::list(&image, &mut room), Ok(lines.len()));
+    assert_eq!(&room[..lines.len()], lines.as_bytes());
+    assert!(room[lines.len()..].iter().all(|byte| *byte == 0xee));
+}
+
+#[test]
+fn a_listing_may_be_longer_than_16_bits_tell() {
+    let mut library = Library::start(16, Metric::CityBlock, u32::MAX, &[i16::MIN; 16]).expect("one strain");
+    (1..1024).for_each(|code| library.add(u32::MAX - code, &[i16::MIN + 8 * code as i16; 16]).expect("another strain"));
+    let (listing, image) = (library.listing(), library.bytes().to_vec());
+    assert!(listing.len() > u16::MAX.into());
+    assert_eq!(listing.lines().count(), 1 + 1024);
+    assert!(listing.ends_with(&format!("{}\n", " -24584".repeat(16))));
+    assert_eq!(kwalgimo::list(&image, &mut vec![0; LISTING_BYTES]), Ok(listing.len()));
 }
 
 #[test]
@@ -84,7 +104,7 @@ fn c4_to_c6_within_a_radius() {
 fn c7_the_nearest_may_be_unable_to_take_a_strain() {
     let mut library = example();
     library.add(105, &[12]).expect("a new strain");
-    assert_eq!(node(&library, 4), (2, 0));
+    assert_eq!(nodes(&library)[4], (2, 0));
 }
 
 #[test]
@@ -96,11 +116,11 @@ fn c8_a_profile_that_is_held() {
 
 #[test]
 fn c9_and_c10_fitting_levels() {
-    let levels = [1, 2, 3, 4, 5].map(|d| node(&built(&[(1, 0), (2, d)]), 1).1);
+    let levels = [1, 2, 3, 4, 5].map(|d| nodes(&built(&[(1, 0), (2, d)]))[1].1);
     assert_eq!(levels, [-1, 0, 1, 1, 2]);
     let mut furthest = Library::start(16, Metric::CityBlock, 1, &[i16::MIN; 16]).expect("one strain");
     furthest.add(2, &[i16::MAX; 16]).expect("another strain");
-    assert_eq!(node(&furthest, 1), (0, 19));
+    assert_eq!(nodes(&furthest)[1], (0, 19));
 }
 
 #[test]

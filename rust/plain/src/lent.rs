@@ -1,6 +1,10 @@
 //! Memory lent to a call.
 use crate::data::Random;
 
+/// Memory of more than `LONG` numbers, which only a room for a listing takes, repeats as many as `DRAWN`: drawing takes its time.
+const LONG: usize = 65_536;
+const DRAWN: usize = 4_093;
+
 /// A slice at any place of a larger piece of memory, bytes at an odd place too. All of it is random before something is put there.
 #[derive(Clone, PartialEq)]
 pub struct Lent<T> {
@@ -12,7 +16,13 @@ pub struct Lent<T> {
 impl<T: Copy + PartialEq> Lent<T> {
     pub fn new(room: usize, any: impl Fn(&mut Random) -> T, random: &mut Random) -> Self {
         let from = 1 + random.below(16);
-        Lent { memory: (0..from + room + 16).map(|_| any(random)).collect(), from, to: from + room }
+        let length = from + room + 16;
+        let drawn = if length > LONG { DRAWN } else { length };
+        let mut memory: Vec<T> = (0..drawn).map(|_| any(random)).collect();
+        while memory.len() < length {
+            memory.extend_from_within(..drawn.min(length - memory.len()));
+        }
+        Lent { memory, from, to: from + room }
     }
 
     /// With as much of this at its front as there is room for.

@@ -18,6 +18,6 @@ pub mod verdict;
 
 pub use build::{add, file, start};
 pub use check::check;
-pub use listing::listing;
+pub use listing::{list, listing, LISTING_BYTES};
 pub use search::{sitting, within};
 pub use short::short;

@@ -2,8 +2,26 @@
 use crate::{
     check::checked,
     layout::{values_of, Image},
+    verdict::Verdict,
 };
 use std::fmt::Write;
+
+/// The room that is asked for, which every listing fits into.
+pub const LISTING_BYTES: usize = 147_456;
+
+/// The listing at the front of a room.
+pub fn list(bytes: &[u8], room: &mut [u8]) -> Verdict {
+    let image = match checked(bytes) {
+        Ok(image) => image,
+        Err(refusal) => return refusal,
+    };
+    if room.len() < LISTING_BYTES {
+        return Verdict::nowhere(16);
+    }
+    let text = listed(&image);
+    room[..text.len()].copy_from_slice(text.as_bytes());
+    Verdict::made(text.len())
+}
 
 /// A header and one line for each record in file order, or `refused` and the number. Each line ends in one line feed.
 pub fn listing(bytes: &[u8]) -> String {

@@ -1,6 +1,6 @@
 //! What a call answers, in one number: the refusal number from bit 0 (0 is accepted), the kind of its place from bit 8 (none, record,
 //! pair), the record or the earlier one of a pair from bit 16, the later one from bit 32. A call that did not refuse has from bit 16 the
-//! first number that it tells, as the length of an image that it made, and from bit 32 the second.
+//! first number that it tells, as the length of what it made, and from bit 32 the second. A listing's length goes on from bit 32.
 use std::fmt;
 
 #[derive(Clone, Copy, PartialEq)]
@@ -31,7 +31,7 @@ impl Verdict {
         Verdict(number | 2 << 8 | (earlier as u64) << 16 | (later as u64) << 32)
     }
 
-    /// Not refused: an image of this length was made.
+    /// Not refused: an image or a listing of this length was made.
     pub fn made(length: usize) -> Self {
         Verdict::told(length, 0)
     }
@@ -50,7 +50,7 @@ impl Verdict {
         self.number() != 0
     }
 
-    /// The length of the image that was made.
+    /// The length of the image or the listing that was made.
     pub fn length(self) -> usize {
         assert!(!self.refused(), "{self}");
         (self.0 >> 16) as usize

@@ -21,6 +21,10 @@ pub fn file(image: &[u8], buffer: &mut [u8]) -> Verdict {
     word(kwalgimo::file(image, buffer), Verdict::made)
 }
 
+pub fn list(image: &[u8], room: &mut [u8]) -> Verdict {
+    word(kwalgimo::list(image, room), Verdict::made)
+}
+
 pub fn sitting(image: &[u8], plates: &[i16], k: u32, codes: &mut [u32], distances: &mut [u32]) -> Verdict {
     word(kwalgimo::sitting(image, plates, k, codes, distances), |filled| Verdict::told(filled, 0))
 }

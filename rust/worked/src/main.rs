@@ -1,6 +1,5 @@
 //! Prints the worked examples of document 01, C1 to C12, as a program that uses the library comes to them.
-use kwalgimo::{Library, Match, Metric, Refusal};
-use plain::images::{self, Record};
+use kwalgimo::{Library, Match, Metric, Record, Refusal};
 use std::error::Error;
 
 /// One well, metric 1, started and added in that order.
@@ -9,7 +8,7 @@ const STRAINS: [(u32, i16); 4] = [(101, 0), (102, 3), (103, 10), (104, 11)];
 fn main() -> Result<(), Box<dyn Error>> {
     let library = built(&STRAINS)?;
     println!("started with 101, added 102, 103, 104:");
-    print!("{}", plain::listing(library.bytes()));
+    print!("{}", library.listing());
     nearest(&library)?;
     short(&library)?;
     within(&library)?;
@@ -29,9 +28,8 @@ fn built(strains: &[(u32, i16)]) -> Result<Library, Refusal> {
     Ok(library)
 }
 
-/// What the image's nodes say, which the library itself tells nobody.
 fn records(library: &Library) -> Vec<Record> {
-    images::Library::read(library.bytes()).records
+    library.records().collect()
 }
 
 fn nearest(library: &Library) -> Result<(), Refusal> {
@@ -82,13 +80,13 @@ fn growing(library: &Library) {
 /// The level that a second strain gets is the fitting level of its distance.
 fn levels() -> Result<(), Refusal> {
     for d in [1, 2, 3, 4, 5] {
-        println!("C9: fitting level of {d}: {}", records(&built(&[(1, 0), (2, d)])?)[1].level);
+        println!("C9: fitting level of {d}: {}", records(&built(&[(1, 0), (2, d)])?)[1].level());
     }
     // sixteen wells at opposite ends of their range: no two profiles are further apart
     let mut library = Library::start(16, Metric::CityBlock, 1, &[i16::MIN; 16])?;
     library.add(2, &[i16::MAX; 16])?;
     let distance = library.nearest(&[i16::MAX; 16], 2)?.plate(0)[1].distance;
-    println!("C10: fitting level of {distance}: {}", records(&library)[1].level);
+    println!("C10: fitting level of {distance}: {}", records(&library)[1].level());
     Ok(())
 }
 
@@ -105,7 +103,7 @@ fn filing(library: &Library) -> Result<(), Refusal> {
 
 fn node(library: &Library, record: usize) -> String {
     let records = records(library);
-    format!("parent {}, level {}", records[records[record].parent].code, records[record].level)
+    format!("parent {}, level {}", records[usize::from(records[record].parent)].code, records[record].level())
 }
 
 fn checks(library: &Library) {

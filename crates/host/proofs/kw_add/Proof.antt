@@ -1,4 +1,5 @@
 -- `kw_add` meets its contract. Assumes nothing.
+use Rattle.host.specs.Word.{first}
 use borrow.Author.Needs.{needs}
 use Rattle.host.proofs.Answers.{wrote}
 use Rattle.host.proofs.kw_add.Statement.{statement}
@@ -10,4 +11,4 @@ kw-add-spec =
     (tie.spec (λ c κs. search needs)
     (λ c κs. search needs)
     (λ c. search needs)
-    (λ c. wrote (c .before .before .before .add .result) _ _ (c .before .before .before .add .ensures) (c .answered .ensures)))
+    (λ c. wrote first (c .before .before .before .add .result) _ _ (c .before .before .before .add .ensures) (c .answered .ensures)))

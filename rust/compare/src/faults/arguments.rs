@@ -13,7 +13,9 @@ pub fn with_wrong_argument(mut call: Call, tree: &Library, number: usize, random
         (Call::Sitting { k, .. }, 15) => *k = wrong_number(*k, 32, random),
         // fewer would be no room for the image itself
         (Call::Add { image, room, .. }, 16) => *room = image.len() + random.below(*room - image.len()),
-        (Call::Start { room, .. } | Call::Filing { room, .. } | Call::Short { room, .. }, 16) => *room = fewer(*room, random),
+        (Call::Start { room, .. } | Call::Filing { room, .. } | Call::List { room, .. } | Call::Short { room, .. }, 16) => {
+            *room = fewer(*room, random)
+        }
         (Call::Sitting { rooms, .. } | Call::Within { rooms, .. }, 16) => *rooms = too_little(*rooms, random),
         (Call::Start { profile, .. } | Call::Add { profile, .. }, 17) => wrong_length(profile, random),
         (Call::Start { code, .. }, 18) => *code = 0,

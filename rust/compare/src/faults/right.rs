@@ -4,6 +4,7 @@ use plain::{
     data::{bytes_of, Random},
     images::Library,
     layout::length,
+    LISTING_BYTES,
 };
 
 pub fn right_call(name: Name, tree: &Library, random: &mut Random) -> Call {
@@ -15,6 +16,7 @@ pub fn right_call(name: Name, tree: &Library, random: &mut Random) -> Call {
         Name::Start => Call::Start { wells: w as u32, metric: tree.metric as u32, code, profile, room: length(1, w) },
         Name::Add => Call::Add { stated: image.len(), room: length(n + 1, w), image, code, profile },
         Name::Filing => Call::Filing { room: image.len(), image },
+        Name::List => Call::List { room: LISTING_BYTES, image },
         Name::Sitting => Call::Sitting { image, plates: plates(3), k: 5, rooms: Rooms::of(15) },
         Name::Within => Call::Within { image, plate: plates(1), radius: 1000, rooms: Rooms::of(n) },
         Name::Short => Call::Short { image, plate: bytes_of(&plates(1)), room: 40 },
