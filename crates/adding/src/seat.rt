@@ -4,7 +4,7 @@ ghost use Rattle.content.specs.Content.{record_at, first_of, nth};
 ghost use Rattle.content.specs.Adding.{parent_for};
 ghost use Rattle.adding.specs.Steps.{Filled, Seated, nearer_seat};
 
-#[derive(Drop)]
+#[derive(Clone, Copy)]
 pub struct Seat {
     pub parent: usize,
     pub distance: u32,

@@ -1,11 +1,24 @@
 -- The laws of a row. Assumes nothing.
 use mathlib.Core.Path.{◌≡◌}
+use mathlib.Core.List.{List}
 use Prim.Native.Nat.{ℕ, suc, ◌+◌, ◌-◌, ◌*◌, ◌≤◌, ◌<◌}
 use native.Mathlib.Nat.{mul-le-mul_right, suc-mul}
 use native.Mathlib.Numerals.{add-one}
 use native.Mathlib.Omega.{arith}
 use borrow.Author.Tests.{lt-ltb, le-ltb}
+use lib.IntN.{ℤ}
+use lib.ListN.{length}
+use Rattle.profile.specs.Bytes.{wells_at}
+use Rattle.profile.specs.Distance.{distance}
 use Rattle.bench.specs.Row.{first_under}
+
+-- the j-th distance of a row: to a plate
+abbrev pub plate_row : ℕ → List ℕ → ℕ → List ℤ → ℕ → ℕ
+plate_row metric image from plate j = distance metric (wells_at image (from + j * (2 * length plate)) (length plate)) plate
+
+-- and to the profile at `at`
+abbrev pub pair_row : ℕ → List ℕ → ℕ → ℕ → ℕ → ℕ → ℕ
+pair_row metric image at from wells j = distance metric (wells_at image at wells) (wells_at image (from + j * (2 * wells)) wells)
 
 -- the j-th of `count` steps lies within what all of them take
 pub step_within : (j count step size : ℕ) → j < count → count * step ≤ size → j * step + step ≤ size

@@ -1,5 +1,7 @@
 // Doors for measuring: what lies inside the library, opened to C and Rust so that it can be compared and timed beside plain code.
 // The product's own door is another crate. A caller here keeps what each `requires` asks.
+#![tactic(auto)]
+
 ghost use Rattle.std.specs.Prelude.{◌≡◌, ◌+◌, ◌*◌, ◌≤◌, ◌<◌, length};
 ghost use Rattle.profile.specs.Bytes.{wells_at};
 ghost use Rattle.profile.specs.Distance.{distance};

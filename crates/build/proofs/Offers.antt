@@ -18,7 +18,7 @@ use Rattle.image.proofs.Tests.{Tells, told_true, told_false, tells_and, tells_eq
 use Rattle.image.proofs.Trees.{library_metric, profile_length, library_profiles}
 use Rattle.content.specs.Content.{nth, first_of, content_of}
 use Rattle.content.specs.Adding.{parent_for}
-use Rattle.content.proofs.Accepted.{parent_in, dist_is, chosen}
+use Rattle.content.proofs.Accepted.{parent_in_lem, dist_is, chosen}
 use Rattle.adding.specs.Steps.{Filled, Seated}
 use Rattle.adding.specs.declared.seat.Seat.{Seat}
 use Rattle.build.specs.Rules.{alike, profile_held}
@@ -65,10 +65,10 @@ module _ {xs : List ℕ} (l : Library xs) (x : List ℤ) (lx : length x ≡ well
   d i = distance (metric_of xs) (profile_at xs i) x
 
   pub seat_in : seat.parent < count_of xs
-  seat_in = rw s.parent (parent_in xs l x)
+  seat_in = rw s.parent (parent_in_lem xs l x)
 
   far : seat.distance ≡ d seat.parent
-  far = s.distance ∙ dist_is xs l x (parent_for (content_of xs) x) (parent_in xs l x) ∙ ap d (sym s.parent)
+  far = s.distance ∙ dist_is xs l x (parent_for (content_of xs) x) (parent_in_lem xs l x) ∙ ap d (sym s.parent)
 
   -- at distance 0 stands the one record with this profile
   pub held_there : seat.distance ≡ 0 → seat.parent ≡ first_below (count_of xs) (profile_held xs x)

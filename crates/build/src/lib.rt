@@ -1,5 +1,7 @@
 // Growing a library: start, add, filing. Each answers with the length of the image that now stands in the buffer, or with a refusal, and then
 // nothing was written.
+#![tactic(auto)]
+
 ghost use Rattle.build.specs.Calls.{StartGives, AddGives, FileGives};
 
 use checker::Checked;

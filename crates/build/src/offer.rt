@@ -9,7 +9,7 @@ ghost use Rattle.build.specs.Steps.{Offered};
 use adding::seat::Seat;
 use image::refusal::{Place, Refusal};
 
-#[derive(Drop)]
+#[derive(Clone, Copy)]
 pub enum Offer {
     Refused(Refusal),
     At(Seat),

@@ -2,11 +2,9 @@
 use mathlib.Core.Path.{◌≡◌, refl}
 use mathlib.Core.Bool.{Bool, false}
 use mathlib.Core.List.{List, ◌∷◌}
-use mathlib.Core.Option.{none}
 use Prim.Native.Nat.{ℕ, ◌<◌}
 use native.Mathlib.Nat.{le_refl}
 use native.Mathlib.Omega.{arith}
-use lib.ListN.{length}
 use borrow.Author.Tests.{le-ltb}
 use Rattle.image.specs.Fields.{count_of}
 use Rattle.image.specs.First.{first_below}

@@ -1,4 +1,6 @@
 // The check of a library: is it laid out as it should be, and does its tree satisfy the published definition?
+#![tactic(auto)]
+
 ghost use Rattle.checker.specs.Check.{CheckGives};
 
 use image::refusal::{Place, Refusal};
@@ -13,7 +15,7 @@ pub mod range; // range.rt: numbers outside a range
 mod records; // records.rt: rules 9 to 13 in their order
 mod separation; // separation.rt: rule 13
 
-#[derive(Drop)]
+#[derive(Clone, Copy)]
 pub enum Checked {
     Accepted,
     Refused(Refusal),

@@ -24,6 +24,7 @@ numbers_append end n = n
 numbers_append (next h m) n = next h (numbers_append m n)
 
 some_number : {lines : List Line} {m : ℕ} {p : Place} → Numbers lines → FirstFault lines m p → 1 ≤ m
+some_number {m = m} {p = p} end x3 = elim x3 [ ]
 some_number (next {m = m} h n) (here a) = leb-true 1 m h
 some_number (next h n) (FirstFault.past f g) = some_number n g
 

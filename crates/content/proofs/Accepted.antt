@@ -53,8 +53,8 @@ module _ (xs : List ℕ) (l : Library xs) (x : List ℤ) where
       subst (λ (n : ℕ). Taker (metric_of xs) x (root_of xs) (nth (content_of xs).records) n v) (content_count xs)
       (taker_is (metric_of xs) x (root_of xs) (nth (content_of xs).records) (length (content_of xs).records))
 
-  pub parent_in : parent_for (content_of xs) x < count_of xs
-  parent_in = ⊎_elim (λ (e : v ≡ root_of xs). rw e l.layout.root) (λ h. h.0) taker.can
+  pub parent_in_lem : parent_for (content_of xs) x < count_of xs
+  parent_in_lem = ⊎_elim (λ (e : v ≡ root_of xs). rw e l.layout.root) (λ h. h.0) taker.can
 
   -- the distance of x and a record, in the content and in the tree
   pub dist_is : (u : ℕ) → u < count_of xs → distance_to (metric_of xs) x (nth (content_of xs).records u) ≡ distance (metric_of xs) (profile_at xs u) x
@@ -75,10 +75,10 @@ module _ (xs : List ℕ) (l : Library xs) (x : List ℤ) where
   pub chosen : NearestTaker (distance (metric_of xs)) (tree_of xs) x (parent_for (content_of xs) x)
   chosen = record {
     taker = record {
-      node = parent_in;
+      node = parent_in_lem;
       near = ⊎_elim inl (λ h. inr ((at_most_level _ _).1 (leb-true _ _ (sym (near_is v h.0) ∙ h.1)))) taker.can;
     };
-    nearest = λ u h. rw (← dist_is v parent_in, ← dist_is u h.node) (as_far (metric_of xs) x _ _ (taker.first u (can_of u h)));
+    nearest = λ u h. rw (← dist_is v parent_in_lem, ← dist_is u h.node) (as_far (metric_of xs) x _ _ (taker.first u (can_of u h)));
   }
 
   -- and of those the one with the lowest code
@@ -91,13 +91,13 @@ module _ (xs : List ℕ) (l : Library xs) (x : List ℤ) where
       code_is i k = ap (λ (r : Kept). r.strain.code) (content_nth xs i k)
 
       as_near : distance_to (metric_of xs) x (nth (content_of xs).records u) ≡ distance_to (metric_of xs) x (nth (content_of xs).records v)
-      as_near = dist_is u h.node ∙ e ∙ sym (dist_is v parent_in)
+      as_near = dist_is u h.node ∙ e ∙ sym (dist_is v parent_in_lem)
 
       go : Dec (code_at xs v ≤ code_at xs u) → code_at xs v ≤ code_at xs u
       go (yes k) = k
       go (no f) =
           absurd ((tells_nearer (metric_of xs) x _ _).no (taker.first u (can_of u h))
-          (inr (as_near, omega (arith, lt_of_not-le f, code_is u h.node, code_is v parent_in))))
+          (inr (as_near, omega (arith, lt_of_not-le f, code_is u h.node, code_is v parent_in_lem))))
 
   -- document 01's sentence names that record, and no other
   pub one_taker : (u : ℕ) → NearestTaker (distance (metric_of xs)) (tree_of xs) x u
@@ -105,7 +105,7 @@ module _ (xs : List ℕ) (l : Library xs) (x : List ℤ) where
       → u ≡ parent_for (content_of xs) x
   one_taker u t lowest =
       let as_near : distance (metric_of xs) (profile_at xs u) x ≡ distance (metric_of xs) (profile_at xs v) x = omega (arith, t.nearest v chosen.taker, chosen.nearest u t.taker) in
-      l.layout.codes u v t.taker.node parent_in (omega (arith, lowest v chosen, chosen_code u t.taker as_near))
+      l.layout.codes u v t.taker.node parent_in_lem (omega (arith, lowest v chosen, chosen_code u t.taker as_near))
 
 -- ---- the new library
 
@@ -126,7 +126,7 @@ module _ (xs : List ℕ) (b : Bytes xs) (l : Library xs) (s : Strain) (f : Fresh
   n = count_of xs
 
   p_in : p < n
-  p_in = parent_in xs l s.profile
+  p_in = parent_in_lem xs l s.profile
 
   profile_in : (i : ℕ) → i < n → Profile (wells_of xs) (profile_at xs i)
   unfolding content_of
@@ -261,8 +261,8 @@ module _ (xs : List ℕ) (b : Bytes xs) (l : Library xs) (s : Strain) (f : Fresh
           is_old : record_at ys i ≡ record_at xs i
           is_old = record_new i (omega arith) ∙ old_is i h ne
 
-  code_of : (i : ℕ) → i < n → code_at ys i ≡ code_at xs i
-  code_of i h = ap (λ (z : Strain). z.code) (same_fields i h).0
+  code_of_lem : (i : ℕ) → i < n → code_at ys i ≡ code_at xs i
+  code_of_lem i h = ap (λ (z : Strain). z.code) (same_fields i h).0
 
   new_code_lem : code_at ys n ≡ s.code
   new_code_lem = ap (λ (r : Kept). r.strain.code) new_fields
@@ -271,14 +271,14 @@ module _ (xs : List ℕ) (b : Bytes xs) (l : Library xs) (s : Strain) (f : Fresh
   one_code i j hi hj e = go (ℕ_discrete i n) (ℕ_discrete j n)
     where
       clash : (k : ℕ) → k < n → code_at ys k ≡ code_at ys n → ⊥
-      clash k h q = f.new_code k h (sym (code_of k h) ∙ q ∙ new_code_lem)
+      clash k h q = f.new_code k h (sym (code_of_lem k h) ∙ q ∙ new_code_lem)
 
       go : Dec (i ≡ n) → Dec (j ≡ n) → i ≡ j
       go (yes a) (yes z) = a ∙ sym z
       go (yes a) (no nz) = absurd (clash j (omega (arith, nz)) (sym e ∙ ap (code_at ys) a))
       go (no na) (yes z) = absurd (clash i (omega (arith, na)) (e ∙ ap (code_at ys) z))
       go (no na) (no nz) =
-          l.layout.codes i j (omega (arith, na)) (omega (arith, nz)) (sym (code_of i (omega (arith, na))) ∙ e ∙ code_of j (omega (arith, nz)))
+          l.layout.codes i j (omega (arith, na)) (omega (arith, nz)) (sym (code_of_lem i (omega (arith, na))) ∙ e ∙ code_of_lem j (omega (arith, nz)))
 
   new_layout : Layout ys
   unfolding raised

@@ -37,9 +37,9 @@ pub record Place (b n k : ℕ) : Type 0 where
   pub place_in : place < b
   pub at : k ≡ b * block + place
 
-pub place_of : (b n k : ℕ) → k < b * n → Place b n k
-place_of zero n k h = absurd (omega arith)
-place_of (suc b) n k h = record {
+pub place_of_lem : (b n k : ℕ) → k < b * n → Place b n k
+place_of_lem zero n k h = absurd (omega arith)
+place_of_lem (suc b) n k h = record {
   block = k / suc b;
   place = k % suc b;
   block_in = (div-lt_iff_lt-mul {k = suc b} {x = k} {y = n} (omega arith)).1 (omega arith);

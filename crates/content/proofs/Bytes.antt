@@ -19,7 +19,7 @@ use Rattle.content.specs.Content.{Kept, Content, no_record, nth, record_at, reco
 use Rattle.content.specs.Bytes.{bytes16, bytes32, word_of, level_byte_of, header_bytes, node_bytes, profile_bytes, bytes_of, Bytes, Roomy, Writable, Framed}
 use Rattle.content.specs.Headed.{Headed}
 use Rattle.content.proofs.Records.{records_length, record_is, content_count, content_nth}
-use Rattle.content.proofs.Blocks.{blocks_length, block_at, place_of, first_at, second_at, third_at, bytes_none, bytes_more, bytes_append, bytes_blocks}
+use Rattle.content.proofs.Blocks.{blocks_length, block_at, place_of_lem, first_at, second_at, third_at, bytes_none, bytes_more, bytes_append, bytes_blocks}
 use Rattle.content.proofs.Numbers.{halves_16, halves_32, written_16, written_32, word_in_16, word_signed, signed_fits, level_byte_low, byte_of_level, level_spans}
 use Rattle.content.proofs.Same.{node_reads, NodeWritten, node_written, header_written, profile_written}
 
@@ -282,11 +282,11 @@ module _ (xs : List ℕ) (B : Bytes xs) where
         go : Dec (k < 16) → Dec (k < 16 + 8 * count_of xs) → get_or (bytes_of (content_of xs)) k 0 ≡ get_or xs k 0
         go (yes l) d = header_agrees k l
         go (no l) (yes m) =
-            let p = place_of 8 (count_of xs) (k - 16) (omega arith) in
+            let p = place_of_lem 8 (count_of xs) (k - 16) (omega arith) in
             let e : k ≡ 16 + 8 * p.block + p.place = omega (arith, p.at) in
             rw e (node_agrees p.block p.place p.block_in p.place_in)
         go (no l) (no m) =
-            let p = place_of (2 * wells_of xs) (count_of xs) (k - (16 + 8 * count_of xs)) (omega arith) in
+            let p = place_of_lem (2 * wells_of xs) (count_of xs) (k - (16 + 8 * count_of xs)) (omega arith) in
             let e : k ≡ profile_start (count_of xs) (wells_of xs) p.block + p.place = omega (arith, p.at) in
             rw e (profile_agrees p.block p.place p.block_in p.place_in)
 

@@ -22,7 +22,7 @@ use Rattle.content.specs.Filing.{grown_of}
 use Rattle.content.proofs.Bytes.{bytes_are, header_is, record_written, content_of_bytes}
 use Rattle.content.proofs.Levels.{Storable}
 use Rattle.content.proofs.Added.{added_strains}
-use Rattle.content.proofs.Accepted.{Fresh, parent_in, dist_is, away, added_writable, added_accepted}
+use Rattle.content.proofs.Accepted.{Fresh, parent_in_lem, dist_is, away, added_writable, added_accepted}
 use Rattle.content.proofs.Started.{Startable, started_writable, started_accepted}
 
 -- strains that one library can hold
@@ -75,7 +75,7 @@ module _ (c : Content) (s : Strain) (rest : List Strain) (sound : Sound c) (hold
   unfolding content_of
   added_away =
       subst (λ (z : Content). 0 < distance_to z.metric s.profile (nth z.records (parent_for z s.profile))) said
-      (rw (dist_is xs sound.accepted s.profile (parent_for (content_of xs) s.profile) (parent_in xs sound.accepted s.profile))
+      (rw (dist_is xs sound.accepted s.profile (parent_for (content_of xs) s.profile) (parent_in_lem xs sound.accepted s.profile))
       (away xs (bytes_are c sound.written) sound.accepted s fresh))
 
   added_sound : Sound (added c s)

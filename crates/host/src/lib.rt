@@ -1,5 +1,7 @@
-// The C interface, the only door for programs in C and Rust; include/kwalgimo.h declares it. Each function hands its call on, and puts the
-// answer into one word, so that a refusal can tell its place and still change nothing that was lent.
+// The doors of the C interface: each function hands its call on, and puts the answer into one word, so that a refusal can tell its place and
+// still change nothing that was lent. host_c exports them by their names here.
+#![tactic(auto)]
+
 ghost use Rattle.std.specs.Prelude.{◌≡◌};
 ghost use Rattle.checker.specs.Check.{check_of};
 ghost use Rattle.build.specs.Calls.{start_of, add_of, file_of};
@@ -14,8 +16,7 @@ use checker::Checked;
 mod word; // word.rt: the answer word
 
 // The check of a library.
-#[unsafe(no_mangle)]
-pub extern "C" fn kw_check(image: &[u8]) -> u64
+pub fn kw_check(image: &[u8]) -> u64
     ensures { result ≡ verdict_word (check_of image.now) }
 {
     match checker::check(image) {
@@ -25,46 +26,35 @@ pub extern "C" fn kw_check(image: &[u8]) -> u64
 }
 
 // A library started with one strain, in the front of the buffer.
-#[unsafe(no_mangle)]
-pub extern "C" fn kw_start(
-    wells: u32,
-    metric: u32,
-    code: u32,
-    profile: &[i16],
-    buffer: &mut [u8],
-) -> u64
+pub fn kw_start(wells: u32, metric: u32, code: u32, profile: &[i16], buffer: &mut [u8]) -> u64
     ensures { Wrote first (start_of wells metric code profile.now buffer.old) result buffer.new }
 {
     word::answered(build::start(wells, metric, code, profile, buffer))
 }
 
 // A strain added to the library that is the first `stated` bytes of the buffer.
-#[unsafe(no_mangle)]
-pub extern "C" fn kw_add(buffer: &mut [u8], stated: usize, code: u32, profile: &[i16]) -> u64
+pub fn kw_add(buffer: &mut [u8], stated: usize, code: u32, profile: &[i16]) -> u64
     ensures { Wrote first (add_of buffer.old stated code profile.now) result buffer.new }
 {
     word::answered(build::add(buffer, stated, code, profile))
 }
 
 // A library's filing form, in the front of the buffer.
-#[unsafe(no_mangle)]
-pub extern "C" fn kw_file(image: &[u8], buffer: &mut [u8]) -> u64
+pub fn kw_file(image: &[u8], buffer: &mut [u8]) -> u64
     ensures { Wrote first (file_of image.now buffer.old) result buffer.new }
 {
     word::answered(build::file(image, buffer))
 }
 
 // A library's listing, in the front of the buffer.
-#[unsafe(no_mangle)]
-pub extern "C" fn kw_list(image: &[u8], buffer: &mut [u8]) -> u64
+pub fn kw_list(image: &[u8], buffer: &mut [u8]) -> u64
     ensures { Wrote long (list_of image.now buffer.old) result buffer.new }
 {
     word::listed(text::list(image, buffer))
 }
 
 // The nearest strains of each plate of a sitting.
-#[unsafe(no_mangle)]
-pub extern "C" fn kw_sitting(
+pub fn kw_sitting(
     image: &[u8],
     plates: &[i16],
     neighbours: u32,
@@ -77,8 +67,7 @@ pub extern "C" fn kw_sitting(
 }
 
 // The strains within a radius of a plate.
-#[unsafe(no_mangle)]
-pub extern "C" fn kw_within(
+pub fn kw_within(
     image: &[u8],
     plate: &[i16],
     radius: u32,
@@ -91,8 +80,7 @@ pub extern "C" fn kw_within(
 }
 
 // The short call: the five nearest strains of one plate that comes in bytes. The result is 0 or the refusal number.
-#[unsafe(no_mangle)]
-pub extern "C" fn kw_short(image: &[u8], plate: &[u8], out: &mut [u8]) -> u32
+pub fn kw_short(image: &[u8], plate: &[u8], out: &mut [u8]) -> u32
     ensures { ShortGives image.now plate.now out.old result out.new }
 {
     short::short(image, plate, out)

@@ -3,25 +3,25 @@ ghost use Rattle.std.specs.Prelude.{◌≡◌, ◌<◌};
 ghost use Rattle.image.specs.Refusals.{number_of, place_of};
 ghost use Rattle.image.specs.Answer.{answer_of};
 ghost use Rattle.search.specs.Answer.{sitting_answer, within_answer};
-ghost use Rattle.host.specs.Word.{first as Word·first, second as Word·second, long as Word·long, place_word, refused_word, answer_word, counts};
+ghost use Rattle.host.specs.Word.{first as word_first, second as word_second, long as word_long, place_word, refused_word, answer_word, counts};
 
 use image::refusal::{Answered, Place, Refusal};
 use search::{Gathered, Served};
 
 fn first(n: usize) -> u64
-    ensures { (result ≡ Word·first n) × (result < 4294967296) }
+    ensures { (result ≡ word_first n) × (result < 4294967296) }
 {
     65536 * (n as u64 % 65536)
 }
 
 fn second(n: usize) -> u64
-    ensures { (result ≡ Word·second n) × (result < 281474976710656) }
+    ensures { (result ≡ word_second n) × (result < 281474976710656) }
 {
     4294967296 * (n as u64 % 65536)
 }
 
 fn long(n: usize) -> u64
-    ensures { result ≡ Word·long n }
+    ensures { result ≡ word_long n }
 {
     65536 * (n as u64 % 4294967296)
 }
@@ -44,7 +44,7 @@ pub fn refusal(told: Refusal) -> u64
 
 // The longest library takes 40976 bytes, so 16 bits hold its length.
 pub fn answered(told: Answered) -> u64
-    ensures { result ≡ answer_word Word·first (answer_of told) }
+    ensures { result ≡ answer_word word_first (answer_of told) }
 {
     match told {
         Answered::Length(length) => first(length),
@@ -54,7 +54,7 @@ pub fn answered(told: Answered) -> u64
 
 // A listing can take 147456 bytes, so its length needs the bits of both values.
 pub fn listed(told: Answered) -> u64
-    ensures { result ≡ answer_word Word·long (answer_of told) }
+    ensures { result ≡ answer_word word_long (answer_of told) }
 {
     match told {
         Answered::Length(length) => long(length),
@@ -63,7 +63,7 @@ pub fn listed(told: Answered) -> u64
 }
 
 pub fn served(told: Served) -> u64
-    ensures { result ≡ answer_word Word·first (sitting_answer told) }
+    ensures { result ≡ answer_word word_first (sitting_answer told) }
 {
     match told {
         Served::Filled(filled) => first(filled),

@@ -12,7 +12,7 @@ use Rattle.image.specs.First.{first_below, later_below}
 use Rattle.image.specs.Verdict.{accepted, refused, Rule, rule, when, at_first, at_pair, judge}
 use Rattle.image.specs.Faults.{Line, line, Whole, whole, AtRecord, record_is, AtPair, pair_is, FirstFault, here, NoFault}
 use Rattle.image.proofs.Tests.{Tells, told_true}
-use Rattle.image.proofs.First.{first_of, first_only, pair_of, pair_only}
+use Rattle.image.proofs.First.{first_of_lem, first_only, pair_of, pair_only}
 
 -- a rule finds a place exactly where its line applies
 pub record Finds (f : Option Place) (Applies : Place → Type 0) : Type 0 where
@@ -36,7 +36,7 @@ finds_whole {b} {P} t = record {
 pub finds_first : {p : ℕ → Bool} {P : ℕ → Type 0} → ((i : ℕ) → Tells (p i) (P i)) → (n : ℕ) → Finds (at_first n p) (AtRecord n P)
 unfolding at_first
 finds_first {p} {P} t n = record {
-  sound = λ q e. let s = some_cond _ _ q e in subst (AtRecord n P) s.1 (record_is (first_of t n (ltb-true _ _ s.0)));
+  sound = λ q e. let s = some_cond _ _ q e in subst (AtRecord n P) s.1 (record_is (first_of_lem t n (ltb-true _ _ s.0)));
   complete = by;
 }
   where
@@ -84,6 +84,7 @@ verdict_first (next {m = k} {f = some q} {Applies = Applies} {lines = lines} s t
 
 pub first_verdict : {rules : List Rule} {lines : List Line} {m : ℕ} {p : Place} → Match rules lines → FirstFault lines m p → judge rules ≡ refused m p
 unfolding judge
+first_verdict {m = m} {p = p} end x4 = elim x4 [ ]
 first_verdict (next {f = f} s t) (here {p = p} a) = rw (s.complete p a) refl
 first_verdict (next {f = none} s t) (FirstFault.past n b) = first_verdict t b
 first_verdict (next {f = some q} s t) (FirstFault.past n b) = absurd (n q (s.sound q refl))

@@ -90,8 +90,8 @@ no_pair_found l before = none_found l before.none
 -- ---- as a reader says it
 
 module _ {p : ℕ → Bool} {P : ℕ → Type 0} (tells : (i : ℕ) → Tells (p i) (P i)) (n : ℕ) where
-  pub first_of : first_below n p < n → First n P (first_below n p)
-  first_of h =
+  pub first_of_lem : first_below n p < n → First n P (first_below n p)
+  first_of_lem h =
       let t = first_told n p in
       record { below = h; holds = (tells _).yes (t.hit h); none = λ k l. (tells k).no (t.none k (omega arith) l) }
 
@@ -102,15 +102,15 @@ module _ {p : ℕ → ℕ → Bool} {P : ℕ → ℕ → Type 0} (tells : (l e :
   -- whether a number has an earlier one with it
   pub has_earlier : (l : ℕ) → Tells (ltb (first_below l (p l)) l) ((e : ℕ) × (e < l) × P l e)
   has_earlier l = record {
-    yes = λ h. let f = first_of (tells l) l (ltb-true _ _ h) in (first_below l (p l), f.below, f.holds);
+    yes = λ h. let f = first_of_lem (tells l) l (ltb-true _ _ h) in (first_below l (p l), f.below, f.holds);
     no = λ h s. (tells l s.0).no (first_none l (p l) (ltb-false _ _ h) s.0 s.1) s.2;
   }
 
   pub pair_of : (n : ℕ) → later_below n p < n → FirstPair n P (first_below (later_below n p) (p (later_below n p))) (later_below n p)
   unfolding later_below
   pair_of n h =
-      let f = first_of has_earlier n h in
-      record { is_later = f; is_earlier = first_of (tells (later_below n p)) (later_below n p) (ltb-true _ _ (told_true (has_earlier (later_below n p)) f.holds)) }
+      let f = first_of_lem has_earlier n h in
+      record { is_later = f; is_earlier = first_of_lem (tells (later_below n p)) (later_below n p) (ltb-true _ _ (told_true (has_earlier (later_below n p)) f.holds)) }
 
   pub pair_only : (n e l : ℕ) → FirstPair n P e l → (later_below n p ≡ l) × (first_below l (p l) ≡ e)
   unfolding later_below

@@ -3,7 +3,7 @@ ghost use Rattle.std.specs.Prelude.{◌≡◌};
 ghost use Rattle.image.specs.Refusals.{number_of, place_of};
 
 // Where a refusal applies.
-#[derive(Drop)]
+#[derive(Clone, Copy)]
 pub enum Place {
     None,
     Record(usize),
@@ -11,7 +11,7 @@ pub enum Place {
 }
 
 // One case for each number of document 01's table, in its order.
-#[derive(Drop)]
+#[derive(Clone, Copy)]
 pub enum Refusal {
     // the library
     Size(Place),
@@ -39,7 +39,7 @@ pub enum Refusal {
 }
 
 // The answer of a call that writes to the front of one slice: how much it wrote, or why it refused.
-#[derive(Drop)]
+#[derive(Clone, Copy)]
 pub enum Answered {
     Length(usize),
     Refused(Refusal),

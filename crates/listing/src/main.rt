@@ -1,11 +1,35 @@
-// The listing program: reads an image on standard input, and prints its listing, or `refused` and the number.
-use libc::{STDIN_FILENO, STDOUT_FILENO};
+// The listing program: reads an image on standard input, and prints its listing, or `refused` and the number. No contract can speak of what is
+// read and printed: that the page holds what is to be printed of the bytes read is the contract of `text::print`, and that no more bytes need be
+// read is `printed_front` in crates/text/proofs/Theorems.antt.
+#![tactic(auto)]
 
-fn main() {
+ghost use Rattle.std.specs.Prelude.{◌≤◌, length};
+
+use std::io::Read;
+
+fn main(rt: HostRuntime) {
     // one byte more than an image may have: what is longer is refused
     let mut input = [0u8; 40977];
-    let length = io::read_full(STDIN_FILENO, &mut input);
+    let length = read_full(&mut rt.stdin(), &mut input);
     let mut page = [0u8; 147456];
     let end = text::print(&input[..length], &mut page);
-    io::write_all(STDOUT_FILENO, &page[..end]);
+    match rt.write_all(&page[..end]) {
+        Ok(()) => (),
+        Err(_) => (),
+    }
+}
+
+// The input's bytes, at most as many as there is room for: how many they are. A read that fails ends the input.
+fn read_full<R: Read>(reader: &mut R, room: &mut [u8]) -> usize
+    ensures { result ≤ length room.old }
+{
+    let mut at = 0;
+    while at < room.len() {
+        match reader.read(&mut room[at..]) {
+            Ok(0) => break,
+            Ok(n) => at += n,
+            Err(_) => break,
+        }
+    }
+    at
 }

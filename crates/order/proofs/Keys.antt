@@ -19,7 +19,7 @@ use Rattle.content.proofs.Filing.{each_map}
 use Rattle.order.specs.Key.{key_at, numbers_of, order_of}
 use Rattle.order.specs.Ordered.{Coded, Ordered}
 use Rattle.order.proofs.Filled.{filled_to, filled_length}
-use Rattle.order.proofs.Order.{get_or_map_in, number_in, order_length, order_in}
+use Rattle.order.proofs.Order.{get_or_map_in, number_in_lem, order_length, order_in}
 
 module _ (xs : List ℕ) (count : ℕ) (c : Coded xs count) where
   -- where the codes differ the numbers weigh nothing, and where they do not it is one record
@@ -35,7 +35,7 @@ module _ (xs : List ℕ) (count : ℕ) (c : Coded xs count) where
           (eq-or-lt_of_le (ltb-false (code_at xs i) (code_at xs j) e)))
 
   counted : {i : ℕ} → Memᴰ i (numbers_of xs) → i < count
-  counted m = omega (arith, number_in xs m)
+  counted m = omega (arith, number_in_lem xs m)
 
   -- the keys of all records, sorted
   sorted_keys : sort_by itself (each (key_at xs) 0 count) ≡ map (key_at xs) (order_of xs)

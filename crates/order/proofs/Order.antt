@@ -21,8 +21,8 @@ get_or_map_in f (x ∷ xs) (suc i) d e h = get_or_map_in f xs i d e (omega arith
 
 module _ (xs : List ℕ) where
   -- the numbers are those below the count
-  pub number_in : {i : ℕ} → Memᴰ i (numbers_of xs) → i < count_of xs
-  number_in {i} m =
+  pub number_in_lem : {i : ℕ} → Memᴰ i (numbers_of xs) → i < count_of xs
+  number_in_lem {i} m =
       let p = get_or_mem 0 m in
       let h : p.0 < count_of xs = omega (arith, p.1, each_length (λ (k : ℕ). k) 0 (count_of xs)) in
       omega (arith, h, p.2, each_at (λ (k : ℕ). k) 0 (count_of xs) p.0 0 h)
@@ -33,7 +33,7 @@ module _ (xs : List ℕ) where
 
   pub order_in : (i : ℕ) → i < count_of xs → get_or (order_of xs) i 0 < count_of xs
   unfolding order_of
-  order_in i h = number_in (sort_mem (code_at xs) (numbers_of xs) (mem_get_or (order_of xs) i 0 (rw order_length h)))
+  order_in i h = number_in_lem (sort_mem (code_at xs) (numbers_of xs) (mem_get_or (order_of xs) i 0 (rw order_length h)))
 
   pub order_strains : map (strain_at xs) (order_of xs) ≡ by_code (strains_of xs)
   unfolding order_of strains_of

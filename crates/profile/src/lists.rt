@@ -1,6 +1,6 @@
 // The distance of two lists of wells.
 ghost use Rattle.std.specs.Prelude.{◌≡◌, ◌≤◌, length};
-ghost use Rattle.profile.specs.Distance.{city_block, largest as largestOf, distance as distance_of};
+ghost use Rattle.profile.specs.Distance.{city_block, largest as largest_of, distance as distance_of};
 
 // Metric 1: the sum of the wells' absolute differences.
 pub fn city_block(a: &[i16], b: &[i16], wells: usize) -> u32
@@ -18,7 +18,7 @@ pub fn city_block(a: &[i16], b: &[i16], wells: usize) -> u32
 // Metric 2: the largest of them.
 pub fn largest(a: &[i16], b: &[i16], wells: usize) -> u32
     requires { (wells ≤ 16) × (length a.now ≡ wells) × (length b.now ≡ wells) }
-    ensures exact { result ≡ largestOf a.now b.now }
+    ensures exact { result ≡ largest_of a.now b.now }
     ensures bound { result ≤ 65535 }
 {
     let mut most: u16 = 0;

@@ -1,6 +1,6 @@
 // The distance of two profiles in an image's bytes. The wells are read in the loop: no copy stands between.
 ghost use Rattle.std.specs.Prelude.{◌≡◌, ◌+◌, ◌*◌, ◌≤◌, length};
-ghost use Rattle.profile.specs.Distance.{city_block, largest as largestOf, distance as distance_of};
+ghost use Rattle.profile.specs.Distance.{city_block, largest as largest_of, distance as distance_of};
 ghost use Rattle.profile.specs.Bytes.{wells_at};
 
 // Metric 1: the sum of the wells' absolute differences.
@@ -21,7 +21,7 @@ pub fn city_block(image: &[u8], p: usize, q: usize, wells: usize) -> u32
 // Metric 2: the largest of them.
 pub fn largest(image: &[u8], p: usize, q: usize, wells: usize) -> u32
     requires { (wells ≤ 16) × (p + 2 * wells ≤ length image.now) × (q + 2 * wells ≤ length image.now) }
-    ensures exact { result ≡ largestOf (wells_at image.now p wells) (wells_at image.now q wells) }
+    ensures exact { result ≡ largest_of (wells_at image.now p wells) (wells_at image.now q wells) }
     ensures bound { result ≤ 65535 }
 {
     let mut most: u16 = 0;

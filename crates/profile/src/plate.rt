@@ -1,6 +1,6 @@
 // The distance of a profile in an image's bytes and a plate.
 ghost use Rattle.std.specs.Prelude.{◌≡◌, ◌+◌, ◌*◌, ◌≤◌, length};
-ghost use Rattle.profile.specs.Distance.{city_block, largest as largestOf, distance as distance_of};
+ghost use Rattle.profile.specs.Distance.{city_block, largest as largest_of, distance as distance_of};
 ghost use Rattle.profile.specs.Bytes.{wells_at};
 
 // Metric 1: the sum of the wells' absolute differences.
@@ -20,7 +20,7 @@ pub fn city_block(image: &[u8], at: usize, plate: &[i16], wells: usize) -> u32
 // Metric 2: the largest of them.
 pub fn largest(image: &[u8], at: usize, plate: &[i16], wells: usize) -> u32
     requires { (wells ≤ 16) × (length plate.now ≡ wells) × (at + 2 * wells ≤ length image.now) }
-    ensures exact { result ≡ largestOf (wells_at image.now at wells) plate.now }
+    ensures exact { result ≡ largest_of (wells_at image.now at wells) plate.now }
     ensures bound { result ≤ 65535 }
 {
     let mut most: u16 = 0;

@@ -46,6 +46,7 @@ module _ {A : Type 0} (key : A → ℕ) where
 
   -- and so is all that was there
   pub insert_old : (x : A) (ys : List A) {a : A} → Memᴰ a ys → Memᴰ a (insert key x ys)
+  insert_old x [] {a = a} m = elim m [ ]
   insert_old x (y ∷ ys) {a} m =
       split (key x) (key y) (λ h. rw (insert_before x y ys h) (Memᴰ.tail m))
       (λ h. rw (insert_after x y ys h) (put (insert_old x ys) m))

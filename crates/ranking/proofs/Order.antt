@@ -24,6 +24,7 @@ module _ {A : Type 0} {key : A → ℕ} where
 
   -- and none of its keys exceeds a later one
   pub ascending_below : (xs ys : List A) {a b : A} → Ascending key (xs ++ ys) → Memᴰ a xs → Memᴰ b ys → key a ≤ key b
+  ascending_below [] ys {a = a} {b = b} _ x4 n = elim x4 [ ]
   ascending_below (x ∷ xs) ys {b = b} (Ascending.next low up) (Memᴰ.head e) n = rw e (low b (Memᴰ.append_right xs n))
   ascending_below (x ∷ xs) ys (Ascending.next low up) (Memᴰ.tail m) n = ascending_below xs ys up m n
 
@@ -32,6 +33,7 @@ module _ {A : Type 0} {key : A → ℕ} where
   distinct_front (x ∷ xs) ys (Distinct.next other d) = Distinct.next (λ y m. other y (Memᴰ.append_left ys m)) (distinct_front xs ys d)
 
   pub distinct_apart : (xs ys : List A) {a b : A} → Distinct key (xs ++ ys) → Memᴰ a xs → Memᴰ b ys → key a ≢ key b
+  distinct_apart [] ys {a = a} {b = b} _ x4 n = elim x4 [ ]
   distinct_apart (x ∷ xs) ys {b = b} (Distinct.next other d) (Memᴰ.head e) n = rw e (other b (Memᴰ.append_right xs n))
   distinct_apart (x ∷ xs) ys (Distinct.next other d) (Memᴰ.tail m) n = distinct_apart xs ys d m n
 
@@ -68,7 +70,7 @@ module _ {A : Type 0} {key : A → ℕ} where
       let k : key x ≡ key y = le_antisymm (least u (back y (Memᴰ.head refl))) (least v (there x (Memᴰ.head refl))) in
       let p : y ≡ x = only d (back y (Memᴰ.head refl)) k in
       ap₂ {C = List A} (λ z zs. z ∷ zs) (sym p)
-      (ascending_one (rest_ascending u) (rest_ascending v) (rest_distinct d) (rest_distinct e)
+      (ascending_one {xs = xs} (rest_ascending u) (rest_ascending v) (rest_distinct d) (rest_distinct e)
       (λ a m. behind d p m (there a (Memᴰ.tail m)))
       (λ a m. behind e (sym p) m (back a (Memᴰ.tail m))))
 

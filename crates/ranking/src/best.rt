@@ -5,7 +5,7 @@ ghost use Rattle.ranking.specs.Order.{Ascending};
 ghost use Rattle.ranking.specs.First.{offered};
 ghost use Rattle.ranking.specs.Best.{distance_of, best_of, kept_of, Running};
 
-#[derive(Drop)]
+#[derive(Clone, Copy)]
 pub struct Best {
     pub ranks: [u64; 32], // `held` ranks in ascending order, and 0 behind them
     pub held: usize,

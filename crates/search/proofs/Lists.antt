@@ -44,6 +44,7 @@ module _ (radius : ℕ) where
   -- what lies inside is of the list, and within the radius
   pub inside_mem : (fs : List Found) {a : Found} → Memᴰ a (inside radius fs) → Memᴰ a fs × (a.distance ≤ radius)
   unfolding inside
+  inside_mem [] {a = a} m = elim m [ ]
   inside_mem (f ∷ fs) {a} m =
       split radius f.distance (λ h. let w = inside_mem fs (rw (inside_no f fs h) at m) in (Memᴰ.tail w.0, w.1))
       (λ h. kept h (inside_mem fs) (rw (inside_yes f fs h) at m))
@@ -55,6 +56,7 @@ module _ (radius : ℕ) where
 
   -- and all of that
   pub mem_inside : (fs : List Found) {a : Found} → Memᴰ a fs → a.distance ≤ radius → Memᴰ a (inside radius fs)
+  mem_inside [] {a = a} x'' h = elim x'' [ ]
   mem_inside (f ∷ fs) (Memᴰ.head e) h = rw (inside_yes f fs (omega (arith, ap (λ (g : Found). g.distance) e))) (Memᴰ.head e)
   mem_inside (f ∷ fs) (Memᴰ.tail m) h =
       split radius f.distance (λ l. rw (inside_no f fs l) (mem_inside fs m h)) (λ l. rw (inside_yes f fs l) (Memᴰ.tail (mem_inside fs m h)))

@@ -6,7 +6,7 @@ ghost use Rattle.image.specs.Library.{Library};
 ghost use Rattle.walk.specs.LaidOut.{Walking};
 ghost use Rattle.search.specs.Steps.{Gathers, Lists};
 
-#[derive(Drop)]
+#[derive(Clone, Copy)]
 pub struct Tally {
     pub strains: usize,
     pub measured: usize,

@@ -1,5 +1,7 @@
 // The searches: the nearest strains for a sitting of plates, and all strains within a radius of a plate. Each checks the library once, and
 // answers with what it found or with a refusal, and then nothing was written.
+#![tactic(auto)]
+
 ghost use Rattle.search.specs.Calls.{SittingGives, WithinGives};
 
 use checker::Checked;
@@ -12,13 +14,13 @@ mod put; // put.rt: what was found, written
 mod radius; // radius.rt: the search within a radius of an accepted library
 mod serve; // serve.rt: the plates of a sitting, one after the other
 
-#[derive(Drop)]
+#[derive(Clone, Copy)]
 pub enum Served {
     Filled(usize), // how many of each plate's places hold a strain
     Refused(Refusal),
 }
 
-#[derive(Drop)]
+#[derive(Clone, Copy)]
 pub enum Gathered {
     Inside(usize, usize), // how many strains lie within the radius, and how many profiles were measured
     Refused(Refusal),

@@ -3,7 +3,7 @@ ghost use Rattle.std.specs.Prelude.{◌≡◌, map, ◌≤◌};
 ghost use Rattle.ranking.specs.Found.{rank};
 ghost use Rattle.ranking.specs.Best.{best_of};
 ghost use Rattle.walk.specs.LaidOut.{Walking};
-ghost use Rattle.search.specs.Ranked.{nearest as nearestOf};
+ghost use Rattle.search.specs.Ranked.{nearest as nearest_of};
 
 use ranking::best::Best;
 
@@ -19,7 +19,7 @@ pub fn nearest(
 ) -> Best
     requires walking { Walking image.now metric wells count order.now end.now plate.now }
     requires le_k { (1 ≤ k) × (k ≤ 32) }
-    ensures { result ≡ best_of k (map rank (nearestOf image.now k plate.now)) }
+    ensures { result ≡ best_of k (map rank (nearest_of image.now k plate.now)) }
 {
     let last = k - 1;
     let mut best = Best::none(k);

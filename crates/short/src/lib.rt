@@ -1,4 +1,6 @@
 // The short call, for a host program in C: the five nearest strains of one plate that comes in bytes.
+#![tactic(auto)]
+
 ghost use Rattle.std.specs.Prelude.{◌≡◌, ◌*◌, ◌≤◌, length};
 ghost use Rattle.std.proofs.lemmas.List.Edits.{sets};
 ghost use Rattle.profile.specs.Bytes.{wells_at};

@@ -1,4 +1,6 @@
 // A library as text: its listing, and what the listing program prints of any bytes.
+#![tactic(auto)]
+
 ghost use Rattle.text.specs.Calls.{ListGives, PrintGives};
 
 use checker::Checked;

@@ -1,1 +1,2 @@
 // The tree's definitions and laws, for any metric: specs/ and proofs/. Nothing here runs.
+#![tactic(auto)]

@@ -31,7 +31,7 @@ module _ {next : List ℕ} where
   chain_is zero h Chain.stop = refl
   chain_is (suc many) h Chain.stop = refl
   chain_is zero h (Chain.link l u rest) = absurd (omega arith)
-  chain_is (suc many) h (Chain.link {c = c} l u rest) = rw (lt-ltb c 1024 u) (ap (λ (cs : List ℕ). c ∷ cs) (chain_is many (omega arith) rest))
+  chain_is {low = low} (suc many) h (Chain.link {c = c} l u rest) = rw (lt-ltb c 1024 u) (ap (λ (cs : List ℕ). c ∷ cs) (chain_is {low = suc c} many (omega arith) rest))
 
   -- siblings in a chain, with the same below each record
   chain_siblings : {low c : ℕ} {cs : List ℕ} (f g : ℕ → Forest) → ((v : ℕ) → v < 1024 → f v ≡ g v) → Chain next low c cs → siblings f cs ≡ siblings g cs

@@ -81,6 +81,7 @@ module _ (test : ℕ → Bool) where
 
   pub mem_picked : (is : List ℕ) {j : ℕ} → Memᴰ j is → test j ≡ true → Memᴰ j (picked is)
   unfolding picked
+  mem_picked [] {j = j} x'' e = elim x'' [ ]
   mem_picked (i ∷ is) (Memᴰ.head p) e = rw (sym (ap test p) ∙ e) (Memᴰ.head p)
   mem_picked (i ∷ is) {j} (Memᴰ.tail m) e = go (test i) (mem_picked is m e)
     where

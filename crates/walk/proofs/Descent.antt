@@ -1,6 +1,6 @@
 -- Descendants in any tree, from above: each hangs below one child only, and none below itself. Assumes nothing.
-use mathlib.Core.Path.{◌≡◌, refl}
-use Prim.Native.Nat.{ℕ, suc}
+use mathlib.Core.Path.{◌≡◌, refl, sym}
+use Prim.Native.Nat.{ℕ, zero, suc}
 use native.Mathlib.Omega.{arith}
 use Rattle.tree.specs.Tree.{Tree, Other, CoverCondition, Below, self, child}
 use Rattle.tree.proofs.Root.{below_level}
@@ -16,10 +16,14 @@ module _ {X : Type 0} {t : Tree X} where
   below_parent h self = child {k = 0} h.other (rw h.is_parent self)
   below_parent h (child o b) = child o (below_parent h b)
 
+  -- no generation below a node is the node
+  below_none : {v u : ℕ} → Below t v zero u → v ≡ u
+  below_none self = refl
+
   -- and what hangs below a node hangs below one of its children, or is that
   pub below_child : {v k u : ℕ} → Below t v (suc k) u → (c : ℕ) × Child t v c × Below t c k u
-  below_child (child {q = u} o self) = (u, record { other = o; is_parent = refl }, self)
-  below_child (child o (child p b)) = let w = below_child (child p b) in (w.0, w.1, child o w.2)
+  below_child {k = zero} (child {q = u} o b) = (u, record { other = o; is_parent = sym (below_none b) }, self)
+  below_child {k = suc k} (child o b) = let w = below_child b in (w.0, w.1, child o w.2)
 
   pub below_other : {v k u : ℕ} → Below t v (suc k) u → Other t u
   below_other (child o b) = o

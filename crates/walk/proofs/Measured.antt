@@ -26,10 +26,10 @@ use Rattle.walk.proofs.Forests.{forest_distinct, forest_all, forest_in}
 use Rattle.walk.proofs.Counting.{counted, counted_all, picked, picked_append, picked_length, picked_mem, mem_picked, picked_distinct}
 
 module _ (xs : List ℕ) (radius : ℕ) (plate : List ℤ) where
-  root_in : (generations : ℕ) → measured_in xs radius plate generations (root_of xs) ≡ true
+  root_in_lem : (generations : ℕ) → measured_in xs radius plate generations (root_of xs) ≡ true
   unfolding measured_in
-  root_in zero = eq-eqb (root_of xs) (root_of xs) refl
-  root_in (suc generations) = rw (eq-eqb (root_of xs) (root_of xs) refl)
+  root_in_lem zero = eq-eqb (root_of xs) (root_of xs) refl
+  root_in_lem (suc generations) = rw (eq-eqb (root_of xs) (root_of xs) refl)
 
   other_in : (generations i : ℕ) → i ≢ root_of xs → measured_in xs radius plate (suc generations) i
       ≡ (opens (found_at xs plate) (reach_at xs) radius (parent_at xs i) && measured_in xs radius plate generations (parent_at xs i))
@@ -39,7 +39,7 @@ module _ (xs : List ℕ) (radius : ℕ) (plate : List ℤ) where
   -- looking further than the root changes nothing
   enough : (k generations i : ℕ) → k ≤ generations → Below (tree_of xs) (root_of xs) k i
       → measured_in xs radius plate generations i ≡ measured_in xs radius plate k i
-  enough zero generations i h self = root_in generations ∙ sym (root_in zero)
+  enough zero generations i h self = root_in_lem generations ∙ sym (root_in_lem zero)
   enough (suc k) zero i h b = absurd (omega arith)
   enough (suc k) (suc generations) i h (child o b) =
       rw (other_in generations i o.not_root, other_in k i o.not_root, enough k generations (parent_at xs i) (omega arith) b)
@@ -53,7 +53,7 @@ module _ (xs : List ℕ) (radius : ℕ) (plate : List ℤ) where
   -- the rule as document 01 says it
   pub root_measured : is_measured xs radius plate (root_of xs) ≡ true
   unfolding is_measured
-  root_measured = root_in 21
+  root_measured = root_in_lem 21
 
 pub other_measured : {xs : List ℕ} → Library xs → (radius : ℕ) (plate : List ℤ) (i : ℕ) → i < count_of xs → i ≢ root_of xs
     → is_measured xs radius plate i ≡ (opens (found_at xs plate) (reach_at xs) radius (parent_at xs i) && is_measured xs radius plate (parent_at xs i))

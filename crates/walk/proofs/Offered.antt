@@ -18,10 +18,13 @@ use Rattle.ranking.proofs.Places.{mem_get_or}
 module _ {A : Type 0} {key : A → ℕ} where
   -- none of a list in order exceeds its last
   pub under_last : {xs : List A} {a : A} (i : ℕ) (d : A) → Ascending key xs → length xs ≡ suc i → Memᴰ a xs → key a ≤ key (get_or xs i d)
+  under_last {a = a} zero d Ascending.none l x8 = elim x8 [ ]
   under_last zero d (Ascending.next low up) l (Memᴰ.head e) = rw e (omega arith)
+  under_last {a = a} zero d (Ascending.next {xs = []} low up) l (Memᴰ.tail m) = elim m [ ]
   under_last zero d (Ascending.next {xs = x ∷ xs} low up) l (Memᴰ.tail m) = absurd (omega arith)
+  under_last {a = a} (suc i) d Ascending.none l x9 = elim x9 [ ]
   under_last (suc i) d (Ascending.next {xs = xs} low up) l (Memᴰ.head e) = rw e (low (get_or xs i d) (mem_get_or xs i d (omega arith)))
-  under_last (suc i) d (Ascending.next low up) l (Memᴰ.tail m) = under_last i d up (omega arith) m
+  under_last (suc i) d (Ascending.next {xs = xs} low up) l (Memᴰ.tail m) = under_last {xs = xs} i d up (omega arith) m
 
 module _ {A : Type 0} (key : A → ℕ) where
   -- of the first k of a list into which x was put, x is one, or they are what they were

@@ -3,7 +3,7 @@ ghost use Rattle.std.specs.Prelude.{◌≡◌, cond, ◌+◌, ◌≤◌, ◌<◌
 ghost use Rattle.walk.specs.Weighed.{found_at, reach_at};
 ghost use Rattle.walk.specs.LaidOut.{Walking, Meets};
 
-#[derive(Drop)]
+#[derive(Clone, Copy)]
 pub struct Met {
     pub place: usize, // where it stands in the order of the walk, or the count where there is none
     pub distance: u32, // its distance from the plate

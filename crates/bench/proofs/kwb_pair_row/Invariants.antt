@@ -1,0 +1,13 @@
+-- `kwb_pair_row` meets its contract: what the rest of the row gives is what the whole row gives. Assumes nothing.
+use mathlib.Core.Path.{◌≡◌}
+use Prim.Native.Nat.{◌+◌, ◌-◌, ◌*◌, ◌≤◌}
+use Rattle.bench.specs.Row.{first_under}
+use Rattle.bench.proofs.Rows.{pair_row}
+use Rattle.bench.proofs.kwb_pair_row.Given as goal
+
+abbrev pub invariant-loop : goal.invariant-loop
+invariant-loop l = (l.counter ≤ l.count) × (l.p ≡ l.from + l.counter * (2 * l.wells))
+    × (first_under (pair_row l.metric l.image l.at l.from l.wells) l.limit l.counter (l.count - l.counter) ≡ first_under (pair_row l.metric l.image l.at l.from l.wells) l.limit 0 l.count)
+
+abbrev pub decreases-loop : goal.decreases-loop
+decreases-loop l = l.count - l.counter

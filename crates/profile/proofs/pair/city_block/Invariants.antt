@@ -1,0 +1,13 @@
+-- `pair::city_block` meets its contract. The sum so far and the city block of the wells left make the whole. Assumes nothing.
+use mathlib.Core.Path.{◌≡◌}
+use Prim.Native.Nat.{◌+◌, ◌-◌, ◌*◌, ◌≤◌}
+use lib.ListN.{drop}
+use Rattle.profile.specs.Bytes.{wells_at}
+use Rattle.profile.specs.Distance.{city_block}
+use Rattle.profile.proofs.pair.city_block.Given as goal
+
+abbrev pub invariant-loop-i : goal.invariant-loop-i
+invariant-loop-i l = (l.i ≤ l.wells) × (l.sum ≤ 65535 * l.i) × (l.sum + city_block (drop l.i (wells_at l.image l.p l.wells)) (drop l.i (wells_at l.image l.q l.wells)) ≡ city_block (wells_at l.image l.p l.wells) (wells_at l.image l.q l.wells))
+
+abbrev pub decreases-loop-i : goal.decreases-loop-i
+decreases-loop-i l = l.wells - l.i
