@@ -3,17 +3,18 @@ from fixture import Scratch
 
 # A public function with all that may stand round a contract.
 GOOD = '''// Every `pub fn` has a contract.
-ghost use mathlib.Core.Path.{_≡_};
-ghost use Prim.Native.Nat.{ℕ, _≤_};
-ghost use Rattle·profile·specs.specs.Gap.{gap, length as lengthOf};
+ghost use Rattle.std.specs.Prelude.{◌≡◌, ℕ};
+ghost use Prim.Native.Nat.{◌≤◌};
+ghost use Rattle.profile.specs.Gap.{gap, length as length_of};
 
-#[no_mangle]
+#[unsafe(no_mangle)]
 pub extern "C" fn wide(x: [u8; 4], /* { */ y: &mut [u8]) -> [u8; 4]
-    requires { ⌜ y ≡ x ⌝ } // {
+    requires { y ≡ x } // {
     ensures exact {
-        λ r. -- a brace in a comment {
-        ⌜ gap {x = r} x ≡ 0 ⌝
+        -- a brace in a comment {
+        gap {x = result} x ≡ 0
     }
+    ensures* rest { ⊤ₛ }
 {
     let open = b"{ // \\" {";
     let brace = b'{';
@@ -22,7 +23,7 @@ pub extern "C" fn wide(x: [u8; 4], /* { */ y: &mut [u8]) -> [u8; 4]
 
 impl Best {
     pub fn new(k: usize) -> Best
-        ensures { λ r. ⌜ r ≡ bestOf k ⌝ }
+        ensures { result ≡ best_of k }
     {
         Best { k }
     }
@@ -38,16 +39,18 @@ fn own(x: u8) -> u8 {
 '''
 
 GOOD_SPECS = '''-- Definitions. length : this is a comment
-{- infixl 6 _+_ {- nested -} T : Type 0 -}
-use mathlib.Core.Path.{_≡_, refl}
+{- infixl 6 ◌+◌ {- nested -} T : Type 0 -}
+use Rattle.std.specs.Prelude.{◌≡◌, refl}
+use mathlib.Core.Path.{sym}
 use mathlib.Core.List
 use package.mathlib.Core.List.{List, []}
 use Prim.{Native.{Nat.{ℕ, zero}}}
+use Rattle.std.proofs.Math.IntN.{suc_ℤ}
 use lib.ListN.{length as count, «take»}
 use lib.Dec as D
 pub mod List
 
-infixl 6 _⊕_
+infixl 6 ◌⊕◌
 abbrev pub gap : (length : ℕ) {T : Type 0} → List ℕ → ℕ
 gap length xs = let min : ℕ = zero in min
 
@@ -62,6 +65,10 @@ pub record Laws (map : ℕ → ℕ) : Type 0 where
   pub self : gap 0 [] ≡ 0
   pub apart : gap 1 [] ≡ 0
 '''
+
+
+# The doors of the C interface.
+DOORS = "".join(f"pub fn kw_{name}()\n    ensures {{ Yes }}\n{{\n}}\n" for name in "check start add file list sitting within short".split())
 
 
 class Contracts(Scratch):
@@ -101,11 +108,11 @@ class Contracts(Scratch):
     # ---- contracts
 
     def test_refuses_a_public_function_with_no_ensures(self):
-        self.refuse_source("\npub fn bare(x: u8) -> u8\n    requires { ⌜ x ≤ 3 ⌝ }\n{\n    x\n}\n",
+        self.refuse_source("\npub fn bare(x: u8) -> u8\n    requires { x ≤ 3 }\n{\n    x\n}\n",
                            "2: the public function `bare` has no ensures")
 
     def test_refuses_an_exported_function_with_no_ensures(self):
-        self.refuse_source('#[no_mangle]\npub extern "C" fn bare(x: u8) -> u8 {\n    x\n}\n',
+        self.refuse_source('#[unsafe(no_mangle)]\npub extern "C" fn bare(x: u8) -> u8 {\n    x\n}\n',
                            "2: the public function `bare` has no ensures")
 
     def test_refuses_a_method_with_no_ensures(self):
@@ -113,11 +120,11 @@ class Contracts(Scratch):
                            "3: the public function `bare` has no ensures")
 
     def test_a_comment_is_no_contract(self):
-        self.refuse_source("pub // said\nfn bare(x: u8) -> u8\n// ensures { λ r. r }\n/* /* */ ensures { λ r. r } */\n{\n    x\n}\n",
+        self.refuse_source("pub // said\nfn bare(x: u8) -> u8\n// ensures { result }\n/* /* */ ensures { result } */\n{\n    x\n}\n",
                            "2: the public function `bare` has no ensures")
 
     def test_the_next_contract_is_not_this_one(self):
-        self.refuse_source("pub fn bare(x: u8) -> u8 {\n    x\n}\nfn next()\n    ensures { λ r. ⌜ Yes ⌝ }\n{\n}\n",
+        self.refuse_source("pub fn bare(x: u8) -> u8 {\n    x\n}\nfn next()\n    ensures { Yes }\n{\n}\n",
                            "1: the public function `bare` has no ensures")
 
     def test_refuses_a_block_with_no_end(self):
@@ -130,26 +137,43 @@ class Contracts(Scratch):
     # ---- calls
 
     def test_refuses_a_requires_in_the_host(self):
-        calls = [f"kw_{name}" for name in "check start add file list sitting within short".split()]
-        self.write("host/src/lib.rt", "".join(f'pub extern "C" fn {call}()\n    ensures {{ λ r. ⌜ Yes ⌝ }}\n{{\n}}\n' for call in calls))
+        self.write("host/src/lib.rt", DOORS)
         self.assert_passed("public functions in 2 crates")
-        self.refuse_source("fn own(x: u8)\n    requires { ⌜ x ≤ 3 ⌝ }\n{\n}\n",
+        self.refuse_source("fn own(x: u8)\n    requires { x ≤ 3 }\n{\n}\n",
                            "1: `own` has a requires, and has to take any input", crate="host")
 
+    def test_refuses_a_requires_in_what_c_sees(self):
+        self.write("host_c/src/lib.rt", DOORS)
+        self.assert_passed("public functions in 2 crates")
+        self.refuse_source("fn own(x: u8)\n    requires { x ≤ 3 }\n{\n}\n",
+                           "1: `own` has a requires, and has to take any input", crate="host_c")
+
+    def test_refuses_an_export_with_other_clauses(self):
+        self.write("host/src/lib.rt", DOORS)
+        self.write("host_c/src/lib.rt", DOORS.replace("pub fn", 'pub extern "C" fn'))
+        self.assert_passed("public functions in 3 crates")
+        self.write("host_c/src/lib.rt", DOORS.replace("Yes", "Other", 2).replace("Other", "Yes", 1))
+        self.assert_refused("host_c/src/lib.rt:5: `kw_start` has other clauses than in host")
+
+    def test_refuses_an_export_that_takes_its_words_from_elsewhere(self):
+        self.write("host/src/lib.rt", DOORS + "ghost use Rattle.host.specs.Word.{Yes, No};\n")
+        self.write("host_c/src/lib.rt", DOORS + "ghost use Rattle.host.specs.Word.{No as Yes};\n")
+        self.assert_refused("host_c/src/lib.rt:1: `Yes` is another word than in host")
+
     def test_refuses_a_requires_on_a_call(self):
-        self.refuse_source("pub fn check(x: u8) -> u8\n    requires { ⌜ x ≤ 3 ⌝ }\n    ensures { λ r. ⌜ r ≡ x ⌝ }\n{\n    x\n}\n",
+        self.refuse_source("pub fn check(x: u8) -> u8\n    requires { x ≤ 3 }\n    ensures { result ≡ x }\n{\n    x\n}\n",
                            "1: `check` has a requires, and has to take any input", crate="checker")
 
     def test_refuses_a_crate_that_lacks_its_calls(self):
-        call = "pub fn {}()\n    ensures {{ λ r. ⌜ Yes ⌝ }}\n{{\n}}\n"
+        call = "pub fn {}()\n    ensures {{ Yes }}\n{{\n}}\n"
         self.write("build/src/lib.rt", "impl Tree {\n" + call.format("file") + "}\nfn add() {}\n" + call.format("start"))
         self.assert_refused("build/src/lib.rt:1: the public call `add` is not there",
                             "build/src/lib.rt:1: the public call `file` is not there")
 
     def test_passes_a_method_spelled_like_a_call(self):
-        clauses = "    requires { ⌜ Yes ⌝ }\n    ensures { λ r. ⌜ Yes ⌝ }\n"
+        clauses = "    requires { Yes }\n    ensures { Yes }\n"
         self.write("checker/src/lib.rt", "impl Best {\npub fn check(self)\n" + clauses + "{\n}\n}\n"
-                   "pub fn check()\n    ensures { λ r. ⌜ Yes ⌝ }\n{\n}\nfn own()\n" + clauses + "{\n}\n")
+                   "pub fn check()\n    ensures { Yes }\n{\n}\nfn own()\n" + clauses + "{\n}\n")
         self.assert_passed("4 public functions in 2 crates")
 
     # ---- symbols
@@ -167,9 +191,14 @@ class Contracts(Scratch):
         self.refuse_specs("use mathlib.{Core.{Path.{refl}, Nat.suc}}\n",
                           "1: `suc` comes from Prim.Native.Nat, and here from mathlib.Core.Nat")
 
+    def test_refuses_what_a_module_of_the_kit_does_not_pass_on(self):
+        self.refuse_specs("use Rattle.std.specs.Prelude.{ℕ, suc_ℤ}\nuse Rattle.std.proofs.Math.IntN.{take}\n",
+                          "1: `suc_ℤ` comes from lib.IntN, and here from Rattle.std.specs.Prelude",
+                          "2: `take` comes from lib.ListN, and here from Rattle.std.proofs.Math.IntN")
+
     def test_refuses_another_name_as_a_symbol_in_a_source(self):
-        self.refuse_source("ghost use Prim.Native.Nat.{_<_ as _≤_};\n",
-                           "1: `_≤_` comes from Prim.Native.Nat, and here it is `_<_` of Prim.Native.Nat")
+        self.refuse_source("ghost use Prim.Native.Nat.{◌<◌ as ◌≤◌};\n",
+                           "1: `◌≤◌` comes from Prim.Native.Nat, and here it is `◌<◌` of Prim.Native.Nat")
 
     def test_refuses_another_name_as_a_symbol_in_a_specification(self):
         self.refuse_specs("use own.Lists.{size as length}\nopen Lists l using (size as take)\n",
@@ -207,4 +236,4 @@ class Contracts(Scratch):
 
     def test_refuses_a_fixity(self):
         for word in "infix", "infixl", "infixr":
-            self.refuse_specs(f"{word} 6 _⊕_ _+_\n", "1: `_+_` comes from Prim.Native.Nat, and is given a fixity here")
+            self.refuse_specs(f"{word} 6 ◌⊕◌ ◌+◌\n", "1: `◌+◌` comes from Prim.Native.Nat, and is given a fixity here")

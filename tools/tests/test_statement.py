@@ -67,8 +67,26 @@ class Statement(Scratch):
 
     def test_law_brought_in_and_not_used(self):
         self.write("crates/claims/proofs/E.antt", "pub unused : A ≡ A\nunused = refl\n")
-        self.write("crates/claims/proofs/F.antt", "use Rattle·claims·proofs.proofs.E.{unused}\n")
+        self.write("crates/claims/proofs/F.antt", "use Rattle.claims.proofs.E.{unused}\n")
         self.refused("crates/claims/proofs/E.antt: nothing cites unused\n")
+
+    def test_law_that_only_the_code_cites(self):
+        self.write("crates/claims/proofs/E.antt", "pub hint : A ≡ A\nhint = refl\n")
+        self.write("crates/claims/src/lib.rt", "#[tactic(auto, using(crate::proofs::E::hint))]\n" + CODE)
+        self.assertEqual(self.run_script("statement")[0], 0)
+
+    def test_answers_need_no_citing(self):
+        self.write("crates/claims/proofs/check/Answers.antt", "pub returns : goal.returns\nreturns c = refl\n")
+        self.write("crates/claims/proofs/check/Invariants.antt", "abbrev pub invariant-loop : goal.invariant-loop\ninvariant-loop l = A\n")
+        self.assertEqual(self.run_script("statement")[0], 0)
+
+    def test_laws_in_a_file_that_is_named_like_answers(self):
+        self.write("crates/claims/proofs/Answers.antt", "pub unused : A ≡ A\nunused = refl\n")
+        self.refused("crates/claims/proofs/Answers.antt: nothing cites unused\n")
+
+    def test_what_rt_leaves_is_not_read(self):
+        self.write("crates/claims/out/proofs/E.antt", "pub unused : A ≡ A\nunused = refl\n")
+        self.assertEqual(self.run_script("statement")[0], 0)
 
     def test_no_link(self):
         self.write("docs/STATEMENT.md", "Nothing.\n")
