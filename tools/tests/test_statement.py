@@ -40,6 +40,10 @@ class Statement(Scratch):
         self.write("docs/STATEMENT.md", LINKS + "[`chec`](../crates/claims/src/lib.rt)\n")
         self.refused("`chec`: not declared in ../crates/claims/src/lib.rt\n")
 
+    def test_function_with_type_parameters(self):
+        self.write("crates/claims/src/lib.rt", CODE.replace("check(", "check<'a, T: Profile>("))
+        self.assertEqual(self.run_script("statement")[0], 0)
+
     def test_declared_in_a_comment_only(self):
         self.write("crates/claims/specs/D.antt", SPECS + "-- last : N\n")
         self.write("docs/STATEMENT.md", LINKS + "[`last`](../crates/claims/specs/D.antt)\n")

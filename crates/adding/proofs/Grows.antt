@@ -18,7 +18,8 @@ use Rattle.content.proofs.Front.{Laid, buffer_is, image_long}
 use Rattle.content.specs.Headed.{Headed}
 use Rattle.writer.specs.Moved.{Moved}
 use Rattle.writer.proofs.Heads.{headed_still}
-use Rattle.adding.specs.Steps.{Filled, Seated, Hung}
+use Rattle.adding.specs.Filled.{Filled}
+use Rattle.adding.specs.Steps.{Seated, Hung}
 use Rattle.adding.specs.declared.seat.Seat.{Seat}
 use Rattle.adding.proofs.Widens.{stated_is, widened_head, widened_says, widened_spare, widened_behind, widened_long, widened_filled}
 
@@ -75,38 +76,48 @@ module _ (buffer : List ℕ) (stated : ℕ) (l : Library (take stated buffer)) (
       image_long zs b size laid (added (content_of (take stated buffer)) s) says
       ∙ omega (arith, stated_is buffer stated l within, mul-suc (wells_of (take stated buffer)) n)
 
--- the same in the numbers that the code reads
-module _ (buffer : List ℕ) (stated : ℕ) (l : Library (take stated buffer)) (within : stated ≤ length buffer) (moved ys : List ℕ) (metric wells count root : ℕ)
-    (em : metric ≡ metric_of (take stated buffer)) (ew : wells ≡ wells_of (take stated buffer)) (ec : count ≡ count_of (take stated buffer))
-    (er : root ≡ root_of (take stated buffer)) (m : Moved buffer moved (16 + 8 * count) stated) (e : ys ≡ sets moved 0 (header_bytes wells metric (count + 1) root))
-    (room : stated + (8 + 2 * wells) ≤ length buffer) where
+-- the library in front of a buffer, laid out anew for one record more, in the numbers that the code reads
+pub record Relaid (buffer : List ℕ) (stated metric wells count : ℕ) (ys : List ℕ) : Type 0 where
+  pub library : Library (take stated buffer)
+  pub is_metric : metric ≡ metric_of (take stated buffer)
+  pub is_wells : wells ≡ wells_of (take stated buffer)
+  pub is_count : count ≡ count_of (take stated buffer)
+  pub room : stated + (8 + 2 * wells) ≤ length buffer
+  pub moved : List ℕ
+  pub widened : Moved buffer moved (16 + 8 * count) stated
+  pub headed : ys ≡ sets moved 0 (header_bytes wells metric (count + 1) (root_of (take stated buffer)))
+
+module _ {buffer : List ℕ} {stated metric wells count : ℕ} {ys : List ℕ} (r : Relaid buffer stated metric wells count ys) where
+  within : stated ≤ length buffer
+  within = omega (arith, r.room)
+
   next : count + 1 ≡ suc (count_of (take stated buffer))
-  next = omega (arith, ec)
+  next = omega (arith, r.is_count)
 
-  moved_is : Moved buffer moved (16 + 8 * count_of (take stated buffer)) stated
-  moved_is = subst (λ (k : ℕ). Moved buffer moved (16 + 8 * k) stated) ec m
+  moved_is : Moved buffer r.moved (16 + 8 * count_of (take stated buffer)) stated
+  moved_is = subst (λ (k : ℕ). Moved buffer r.moved (16 + 8 * k) stated) r.is_count r.widened
 
-  head_is : ys ≡ sets moved 0 (header_bytes (wells_of (take stated buffer)) (metric_of (take stated buffer)) (suc (count_of (take stated buffer))) (root_of (take stated buffer)))
-  head_is = e ∙ (λ i. sets moved 0 (header_bytes (ew i) (em i) (next i) (er i)))
+  head_is : ys ≡ sets r.moved 0 (header_bytes (wells_of (take stated buffer)) (metric_of (take stated buffer)) (suc (count_of (take stated buffer))) (root_of (take stated buffer)))
+  head_is = r.headed ∙ (λ i. sets r.moved 0 (header_bytes (r.is_wells i) (r.is_metric i) (next i) (root_of (take stated buffer))))
 
   room_is : size_of (wells_of (take stated buffer)) (suc (count_of (take stated buffer))) ≤ length buffer
-  room_is = omega (arith, room, ew, stated_is buffer stated l within, mul-suc (wells_of (take stated buffer)) (count_of (take stated buffer)))
+  room_is = omega (arith, r.room, r.is_wells, stated_is buffer stated r.library within, mul-suc (wells_of (take stated buffer)) (count_of (take stated buffer)))
 
   pub grow_filled : count < 1024 → Filled ys metric wells (count + 1) count
-  grow_filled h = rw (em, ew, next, ec) (widened_filled buffer stated l within moved ys moved_is head_is room_is (omega (arith, ec)))
+  grow_filled h = rw (r.is_metric, r.is_wells, next, r.is_count) (widened_filled buffer stated r.library within r.moved ys moved_is head_is room_is (omega (arith, r.is_count)))
 
   pub grow_seated : {x : List ℤ} {seat : Seat} → Seated (metric_of (take stated buffer)) x (nth (content_of (take stated buffer)).records) seat (parent_for (content_of (take stated buffer)) x)
       → Seated metric x (nth (first_of ys count).records) seat (parent_for (first_of ys count) x)
-  grow_seated {x} {seat} s = transport (λ i. Seated (sym em i) x (nth (sym same i).records) seat (parent_for (sym same i) x)) s
+  grow_seated {x} {seat} s = transport (λ i. Seated (sym r.is_metric i) x (nth (sym same i).records) seat (parent_for (sym same i) x)) s
     where
       same : first_of ys count ≡ content_of (take stated buffer)
-      same = ap (first_of ys) ec ∙ widened_says buffer stated l within moved ys moved_is head_is room_is
+      same = ap (first_of ys) r.is_count ∙ widened_says buffer stated r.library within r.moved ys moved_is head_is room_is
 
   pub grow_done : (zs : List ℕ) (s : Strain) → Hung ys zs (size_of wells (count + 1)) count s → Bytes zs
       → (zs ≡ bytes_of (added (content_of (take stated buffer)) s) ++ drop (length (bytes_of (added (content_of (take stated buffer)) s))) buffer)
       × (length (bytes_of (added (content_of (take stated buffer)) s)) ≡ stated + (8 + 2 * wells))
   grow_done zs s h b =
-      let h' = transport (λ i. Hung ys zs (size_of (ew i) (next i)) (ec i) s) h in (
-        grown_buffer buffer stated l within moved ys zs moved_is head_is room_is s h' b,
-        grown_long buffer stated l within moved ys zs moved_is head_is room_is s h' b ∙ ap (λ (k : ℕ). stated + (8 + 2 * k)) (sym ew),
+      let h' = transport (λ i. Hung ys zs (size_of (r.is_wells i) (next i)) (r.is_count i) s) h in (
+        grown_buffer buffer stated r.library within r.moved ys zs moved_is head_is room_is s h' b,
+        grown_long buffer stated r.library within r.moved ys zs moved_is head_is room_is s h' b ∙ ap (λ (k : ℕ). stated + (8 + 2 * k)) (sym r.is_wells),
       )

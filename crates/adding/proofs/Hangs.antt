@@ -2,10 +2,12 @@
 use mathlib.Core.Path.{◌≡◌, refl, sym, ◌∙◌, ap, subst}
 use mathlib.Core.Logic.{◌≢◌, inl, inr, ⊎_elim}
 use mathlib.Core.List.{List}
-use Prim.Native.Nat.{ℕ, suc, ◌+◌, ◌*◌, ◌≤◌, ◌<◌}
+use Prim.Native.Nat.{ℕ, suc, ◌+◌, ◌*◌, ◌<◌}
 use native.Mathlib.Decide.{ℕ_discrete}
 use native.Mathlib.Omega.{arith}
-use lib.IntN.{ℤ, pos, negsuc, suc_ℤ}
+use lib.IntN.{ℤ, pos, negsuc, suc_ℤ, ◌+ℤ◌}
+use Rattle.std.specs.Int.{int_max}
+use Rattle.std.proofs.lemmas.Int.{ints}
 use lib.ListN.{length, get_or, set}
 use lib.Seq.{ext_get_or, sets}
 use lib.Signed.{◌≤ℤ◌}
@@ -27,7 +29,8 @@ use Rattle.content.proofs.Same.{NodeSame, node_same, NodeButLevel, node_but_leve
 use Rattle.content.proofs.Taker.{taker_is}
 use Rattle.content.proofs.Levels.{Storable, fitting_storable, raised_storable}
 use Rattle.content.proofs.Added.{added_length, added_old, added_root, added_new}
-use Rattle.adding.specs.Steps.{Filled, Seated, Hung}
+use Rattle.adding.specs.Filled.{Filled}
+use Rattle.adding.specs.Steps.{Seated, Hung}
 use Rattle.adding.specs.declared.seat.Seat.{Seat}
 use Rattle.adding.proofs.Puts.{Put, put}
 
@@ -138,8 +141,10 @@ module _ {xs ys : List ℕ} {metric wells count k : ℕ} (f : Filled xs metric w
         new_spare = (node_written ys k wells _ roomy p.node).spare;
       }
 
-pub level_20 : {e : ℤ} → e ≤ℤ pos 19 → e ≤ℤ pos 20
-level_20 {e} h = parts_le e (pos 20) (omega (arith, le_parts h))
+-- the higher of the root's level and the new one plus 1, as the code works it out
+pub higher_max : (a e : ℤ) → int_max a (e +ℤ pos 1) ≡ higher a (suc_ℤ e)
+unfolding higher
+higher_max a e = grind (arith, ints)
 
 -- the parent is one of the filled records
 pub seat_below : {xs : List ℕ} {metric wells count k : ℕ} {x : List ℤ} {seat : Seat} → Filled xs metric wells count k
@@ -152,7 +157,7 @@ seat_below {xs} {k = k} {x = x} f s =
 
 -- what `hang` does
 module _ {xs : List ℕ} {metric wells count k : ℕ} (f : Filled xs metric wells count k) (inside : k < count) (code : ℕ) (x : List ℤ) (seat : Seat)
-    (s : Seated metric x (nth (first_of xs k).records) seat (parent_for (first_of xs k) x)) (away : 0 < seat.distance) (near : seat.distance ≤ 1048560)
+    (s : Seated metric x (nth (first_of xs k).records) seat (parent_for (first_of xs k) x)) (away : 0 < seat.distance)
     (code_fits : code < 4294967296) (long : length x ≡ wells) (values : Wells x) where
   abbrev strain : Strain
   strain = record { code = code; profile = x }
@@ -163,7 +168,7 @@ module _ {xs : List ℕ} {metric wells count k : ℕ} (f : Filled xs metric well
       (λ i. fitting_level (distance_to (sym f.is_metric i) x (nth (records_of xs k) (parent_for (first_of xs k) x)))) ∙ ap fitting_level (sym s.distance)
 
   storable : Storable (level_for (first_of xs k) x)
-  storable = rw level_is (fitting_storable seat.distance away near)
+  storable = rw level_is (fitting_storable seat.distance away seat.near)
 
   roomy : Roomy wells (new_record (first_of xs k) strain)
   roomy = record {
@@ -177,10 +182,10 @@ module _ {xs : List ℕ} {metric wells count k : ℕ} (f : Filled xs metric well
   top_least : negsuc 0 ≤ℤ top_level xs (first_of xs k) strain
   top_least =
       let b = level_span (f.level_in (root_of xs) f.root_in) in
-      rw level_is (raised_storable (level_at xs (root_of xs)) seat.distance (record { least = b.0; most = b.1 }) away near).least
+      rw level_is (raised_storable (level_at xs (root_of xs)) seat.distance (record { least = b.0; most = b.1 }) away seat.near).least
 
   pub hung_by : (mid ys : List ℕ) (level top : ℤ) → level ≡ fitting_level seat.distance → top ≡ higher (level_at xs (root_of xs)) (suc_ℤ level)
-      → mid ≡ sets (sets xs (16 + 8 * k) (node_bytes (kept_of code x seat.parent level))) (profile_start count (length x) k) (profile_bytes x)
+      → mid ≡ sets (sets xs (16 + 8 * k) (node_bytes (kept_of code x seat.parent level))) (profile_start count wells k) (profile_bytes x)
       → ys ≡ set mid (22 + 8 * root_of xs) (level_byte_of top) → Hung xs ys (size_of wells count) k (record { code = code; profile = x })
   hung_by mid ys level top l t m y =
       hung f strain inside
@@ -194,4 +199,6 @@ module _ {xs : List ℕ} {metric wells count k : ℕ} (f : Filled xs metric well
       over = t ∙ ap (λ (e : ℤ). higher (level_at xs (root_of xs)) (suc_ℤ e)) same
 
       written : mid ≡ sets (sets xs (16 + 8 * k) (node_bytes (new_record (first_of xs k) strain))) (profile_start count wells k) (profile_bytes x)
-      written = m ∙ (λ i. sets (sets xs (16 + 8 * k) (node_bytes (kept_of code x (s.parent i) (same i)))) (profile_start count (long i) k) (profile_bytes x))
+      written =
+          m
+          ∙ (λ i. sets (sets xs (16 + 8 * k) (node_bytes (kept_of code x (s.parent i) (same i)))) (profile_start count wells k) (profile_bytes x))

@@ -13,7 +13,7 @@ use Rattle.content.specs.Content.{Kept}
 use Rattle.content.specs.Bytes.{level_byte_of, node_bytes, profile_bytes}
 use Rattle.content.proofs.Bytes.{node_length, profile_length}
 use Rattle.writer.proofs.Stores.{sets_in, sets_before, sets_behind}
-use Rattle.adding.specs.Steps.{Filled}
+use Rattle.adding.specs.Filled.{Filled}
 
 -- record k was written, and the root's level byte; all else is as it was
 pub record Put (xs ys : List ℕ) (wells count k : ℕ) (r : Kept) (top : ℤ) : Type 0 where

@@ -1,75 +1,54 @@
 -- The search for the record that takes a new strain. Assumes nothing.
 use mathlib.Core.Path.{◌≡◌, refl, sym, ◌∙◌, ap, subst}
 use mathlib.Core.Logic.{⊎_elim}
-use mathlib.Core.Bool.{Bool, true, false, cond, ◌&&◌}
+use mathlib.Core.Bool.{Bool, true, false, cond, ◌||◌, ◌&&◌}
 use mathlib.Core.List.{List}
-use Prim.Native.Nat.{ℕ, zero, suc, ◌+◌, ◌*◌, ◌≤◌, ◌<◌}
+use Prim.Native.Nat.{ℕ, zero, suc, ◌+◌, ◌≤◌, ◌<◌}
 use native.Mathlib.Nat.{eq-or-lt_of_le}
 use native.Mathlib.Numerals.{add-one}
 use native.Mathlib.Omega.{arith}
-use lib.Dec.{leb}
 use lib.IntN.{ℤ}
-use Rattle.profile.specs.Bytes.{wells_at}
-use Rattle.profile.specs.Distance.{distance}
-use Rattle.profile.specs.Level.{cover_limit}
-use Rattle.image.specs.Fields.{root_of, profile_start, profile_at}
+use Rattle.std.proofs.Common.{Ordering, Less, Equal, Greater}
+use Rattle.std.specs.Ordering.{is_lt, ordering_then, nat_cmp}
+use Rattle.image.specs.Fields.{root_of}
 use Rattle.content.specs.Content.{Kept, nth, record_at, records_of, first_of}
 use Rattle.content.specs.Adding.{distance_to, near_enough, nearer, taker_below, parent_for}
 use Rattle.content.proofs.Records.{records_length, record_is}
-use Rattle.adding.specs.Steps.{Filled, Seated, nearer_seat, Beyond, NextNear}
+use Rattle.adding.specs.Filled.{Filled}
+use Rattle.adding.specs.Near.{Beyond}
+use Rattle.adding.specs.Steps.{Seated}
 use Rattle.adding.specs.declared.seat.Seat.{Seat}
 
--- the distance that is measured from where the profile of record i starts is that of record i
-pub measured : {xs : List ℕ} {metric wells count filled : ℕ} → Filled xs metric wells count filled → (x : List ℤ) (i start d : ℕ)
-    → d ≡ distance metric (wells_at xs start wells) x → start ≡ profile_start count wells i → d ≡ distance_to metric x (record_at xs i)
-unfolding distance_to profile_at
-measured {xs} {metric} f x i start d e s = e ∙ rw (s, f.is_wells, f.is_count) refl
+-- of two pairs of numbers, the test which is the lesser
+tested : (lt eq lt' eq' : Bool) → is_lt (ordering_then (cond lt Less (cond eq Equal Greater)) (cond lt' Less (cond eq' Equal Greater))) ≡ (lt || (eq && lt'))
+tested true eq lt' eq' = refl
+tested false true true eq' = refl
+tested false true false true = refl
+tested false true false false = refl
+tested false false lt' eq' = refl
 
-pub near_is : (metric : ℕ) (x : List ℤ) (r : Kept) (d limit : ℕ) → d ≡ distance_to metric x r → limit ≡ cover_limit r.level → leb (2 * d) limit ≡ near_enough metric x r
-unfolding near_enough
-near_is metric x r d limit e l = rw (e, l) refl
+-- the order of seats: by distance, and then by code
+abbrev pub by_key : Seat → Seat → Ordering
+by_key a b = ordering_then (nat_cmp a.distance b.distance) (nat_cmp a.code b.code)
 
 module _ (metric : ℕ) (x : List ℤ) (at : ℕ → Kept) where
-  -- the test of one seat against the best so far is that of their records
-  nearer_is : {a b : Seat} {u v : ℕ} → Seated metric x at a u → Seated metric x at b v
-      → nearer_seat a b ≡ nearer metric x (at u) (at v)
+  -- it is that of their records
+  pub nearer_is : {a b : Seat} {u v : ℕ} → Seated metric x at a u → Seated metric x at b v → is_lt (by_key a b) ≡ nearer metric x (at u) (at v)
   unfolding nearer
-  nearer_is p q = rw (p.distance, p.code, q.distance, q.code) refl
+  nearer_is p q = rw (p.distance, p.code, q.distance, q.code) (tested _ _ _ _)
 
   -- either of two seats is of its record
   either : {a b : Seat} {u v : ℕ} (t : Bool) → Seated metric x at a u → Seated metric x at b v → Seated metric x at (cond t a b) (cond t u v)
   either true p q = p
   either false p q = q
 
-  -- records beyond: none, and one more
-  pub beyond_none : (from : ℕ) → Beyond metric x at from from
-  beyond_none from = record { none = λ k h l. absurd (omega arith) }
-
-  pub beyond_more : (from n : ℕ) → Beyond metric x at from n → near_enough metric x (at n) ≡ false → Beyond metric x at from (n + 1)
-  beyond_more from n b e = record {
-    none = λ k h l.
-        ⊎_elim (λ (q : k ≡ n). ap (λ (j : ℕ). near_enough metric x (at j)) q ∙ e) (λ (u : k < n). b.none k h u) (eq-or-lt_of_le (omega arith));
-  }
-
-  -- the next is here, or there is none
-  pub next_here : (filled from n : ℕ) → from ≤ n → n ≤ filled → Beyond metric x at from n → near_enough metric x (at n) ≡ true → NextNear metric x at filled from n
-  next_here filled from n h l b e = record { onward = h; inside = l; beyond = b; near = λ k. e }
-
-  pub next_none : (filled from n : ℕ) → from ≤ n → n ≡ filled → Beyond metric x at from n → NextNear metric x at filled from filled
-  next_none filled from n h e b = record {
-    onward = omega arith;
-    inside = omega arith;
-    beyond = subst (Beyond metric x at from) e b;
-    near = λ k. absurd (omega arith);
-  }
-
 module _ (metric : ℕ) (x : List ℤ) (root : ℕ) (at : ℕ → Kept) where
   -- record i is near enough: the better of it and the best so far
   pub better_of : (i : ℕ) (a b : Seat) {r : Seat} → near_enough metric x (at i) ≡ true → Seated metric x at a i → Seated metric x at b (taker_below metric x root at i)
-      → r ≡ cond (nearer_seat a b) a b
+      → r ≡ cond (is_lt (by_key a b)) a b
       → Seated metric x at r (taker_below metric x root at (i + 1))
   unfolding taker_below
-  better_of i a b n p q e = rw (e, add-one i, n, ← nearer_is metric x at p q) (either metric x at (nearer_seat a b) p q)
+  better_of i a b n p q e = rw (e, add-one i, n, ← nearer_is metric x at p q) (either metric x at (is_lt (by_key a b)) p q)
 
   -- record i is not: the best so far is kept
   kept : (i : ℕ) {best : Seat} → Seated metric x at best (taker_below metric x root at i) → near_enough metric x (at i) ≡ false
@@ -94,11 +73,6 @@ module _ (metric : ℕ) (x : List ℤ) (root : ℕ) (at : ℕ → Kept) where
   unfolding taker_below
   first_seat {seat} v e s = subst (Seated metric x at seat) e s
 
--- neither of two seats is further
-pub either_near : (a b r : Seat) (n : ℕ) (t : Bool) → r ≡ cond t a b → a.distance ≤ n → b.distance ≤ n → r.distance ≤ n
-either_near a b r n true e h l = rw e h
-either_near a b r n false e h l = rw e l
-
 -- two records numbered in two ways, and a record more: what is best of them is one record, if it was so before
 by_step : (metric : ℕ) (x : List ℤ) (at at' : ℕ → Kept) (n best best' : ℕ) → at n ≡ at' n → (best ≡ best') × (at best ≡ at' best') → (b b' : Bool)
     → near_enough metric x (at n) && nearer metric x (at n) (at best) ≡ b → near_enough metric x (at' n) && nearer metric x (at' n) (at' best') ≡ b'
@@ -120,19 +94,11 @@ taker_by metric x root at at' zero e h = (refl, e)
 taker_by metric x root at at' (suc n) e h =
     by_step metric x at at' n _ _ (h n (omega arith)) (taker_by metric x root at at' n e (λ i k. h i (omega arith))) _ _ refl refl
 
--- what `near` asks for, with a width written out, and with a metric
-module _ {xs : List ℕ} {metric wells count filled long from : ℕ} (asked : Filled xs metric wells count filled × ((long ≡ wells) × (from ≤ filled))) where
-  pub at_width : {w : ℕ} → wells ≡ w → Filled xs metric w count filled × ((long ≡ w) × (from ≤ filled))
-  at_width e = subst (λ (w : ℕ). Filled xs metric w count filled × ((long ≡ w) × (from ≤ filled))) e asked
-
-  pub at_metric : {m : ℕ} → metric ≡ m → Filled xs m wells count filled × ((long ≡ wells) × (from ≤ filled))
-  at_metric e = subst (λ (m : ℕ). Filled xs m wells count filled × ((long ≡ wells) × (from ≤ filled))) e asked
-
 module _ {xs : List ℕ} {metric wells count filled : ℕ} (f : Filled xs metric wells count filled) (x : List ℤ) where
-  pub best_is : {seat : Seat} (n : ℕ) → n ≡ filled → Seated metric x (record_at xs) seat (taker_below metric x (root_of xs) (record_at xs) n)
+  pub best_is : {seat : Seat} → Seated metric x (record_at xs) seat (taker_below metric x (root_of xs) (record_at xs) filled)
       → Seated metric x (nth (first_of xs filled).records) seat (parent_for (first_of xs filled) x)
   unfolding parent_for
-  best_is n e s = record {
+  best_is s = record {
     parent = s.parent ∙ number;
     distance = s.distance ∙ ap (distance_to metric x) same;
     code = s.code ∙ ap (λ (r : Kept). r.strain.code) same;
@@ -147,8 +113,8 @@ module _ {xs : List ℕ} {metric wells count filled : ℕ} (f : Filled xs metric
       told : taker_below metric x (root_of xs) records filled ≡ parent_for (first_of xs filled) x
       told = λ j. taker_below (f.is_metric j) x (root_of xs) records (sym (records_length xs filled) j)
 
-      number : taker_below metric x (root_of xs) (record_at xs) n ≡ parent_for (first_of xs filled) x
-      number = ap (taker_below metric x (root_of xs) (record_at xs)) e ∙ by.0 ∙ told
+      number : taker_below metric x (root_of xs) (record_at xs) filled ≡ parent_for (first_of xs filled) x
+      number = by.0 ∙ told
 
-      same : record_at xs (taker_below metric x (root_of xs) (record_at xs) n) ≡ records (parent_for (first_of xs filled) x)
-      same = ap (λ (k : ℕ). record_at xs (taker_below metric x (root_of xs) (record_at xs) k)) e ∙ by.1 ∙ ap records told
+      same : record_at xs (taker_below metric x (root_of xs) (record_at xs) filled) ≡ records (parent_for (first_of xs filled) x)
+      same = by.1 ∙ ap records told

@@ -13,11 +13,11 @@ use Rattle.image.proofs.Sizes.{row_in}
 use Rattle.content.specs.Content.{no_record, record_at, records_of, first_of, content_of}
 use Rattle.content.specs.Bytes.{header_bytes}
 use Rattle.content.proofs.Records.{records_length, record_is}
-use Rattle.content.proofs.Same.{HeaderSame, header_same, NodeSame, node_same, wells_same}
+use Rattle.content.proofs.Same.{NodeSame, node_same, wells_same}
 use Rattle.content.specs.Headed.{Headed}
 use Rattle.writer.specs.Moved.{Moved}
 use Rattle.writer.proofs.Heads.{head_long, past_head, headed}
-use Rattle.adding.specs.Steps.{Filled}
+use Rattle.adding.specs.Filled.{Filled}
 
 module _ (buffer : List ℕ) (stated : ℕ) (l : Library (take stated buffer)) (within : stated ≤ length buffer) where
   abbrev image : List ℕ
@@ -34,10 +34,6 @@ module _ (buffer : List ℕ) (stated : ℕ) (l : Library (take stated buffer)) (
 
   at : (j : ℕ) → j < stated → get_or buffer j 0 ≡ get_or image j 0
   at j h = sym (get_or-take stated buffer j 0 h)
-
-  -- the header of the image is the buffer's
-  pub image_header : HeaderSame (take stated buffer) buffer
-  image_header = header_same image buffer (λ j h. at j (omega (arith, stated_is)))
 
   module _ (moved ys : List ℕ) (m : Moved buffer moved (16 + 8 * n) stated)
       (e : ys ≡ sets moved 0 (header_bytes w (metric_of image) (suc n) (root_of image))) (room : size_of w (suc n) ≤ length buffer) where

@@ -1,85 +1,74 @@
 // A library's strains filed into another buffer, in ascending order of code. The buffer is laid out for all of them from the start.
 ghost use Rattle.std.specs.Prelude.{◌≡◌, ◌++◌, ◌+◌, ◌≤◌, ◌<◌, length, get_or, drop};
-ghost use Rattle.image.specs.Fields.{wells_of, metric_of, count_of};
-ghost use Rattle.image.specs.Library.{Library};
+ghost use Rattle.image.specs.Strains.{strain_of, strain_at};
 ghost use Rattle.content.specs.Filing.{filing_form};
 ghost use Rattle.order.specs.Key.{order_of};
 ghost use Rattle.adding.specs.Steps.{Filing};
 
+use crate::strain::NewStrain;
+use crate::takers::Takers;
+use image::accepted::Accepted;
+use image::records::Records;
+
+// The strain of record i, its profile copied out.
+#[tactic(auto, using(crate::proofs::ByCode::copied))]
+fn copy_out<'p>(library: &Accepted<'_>, i: usize, profile: &'p mut [i16; 16]) -> NewStrain<'p>
+    requires { i < library.now.records.shape.count }
+    ensures fits { length result.profile.now ≡ library.now.records.shape.wells }
+    ensures exact { strain_of result.code result.profile.now ≡ strain_at library.now.records.image.now i }
+{
+    let profile = &mut profile[..library.records.shape.wells];
+    let code = order::wells::strain(&library.records, i, profile);
+    NewStrain { code, profile }
+}
+
 // The strain of record `from` as the root.
-fn lay_first(image: &[u8], buffer: &mut [u8], metric: u8, wells: usize, count: usize, from: usize)
-    requires library { Library image.now }
-    requires metric_value { (metric ≡ metric_of image.now) × (wells ≡ wells_of image.now) × (count ≡ count_of image.now) }
-    requires image_in_bounds { (length image.now ≤ length buffer.old) × (from ≡ get_or (order_of image.now) 0 0) }
-    ensures { Filing image.now buffer.old buffer.new 1 }
+#[tactic(auto, using(crate::proofs::ByCode::ordered_in, crate::proofs::Files::filing_some, crate::proofs::Files::filing_first))]
+fn lay_first(library: &Accepted<'_>, buffer: &mut [u8], from: usize)
+    requires room { length library.now.records.image.now ≤ length buffer.old }
+    requires first { from ≡ get_or (order_of library.now.records.image.now) 0 0 }
+    ensures { Filing library.now.records.image.now buffer.old buffer.new 1 }
 {
     let mut profile = [0i16; 16];
-    let code = order::wells::strain(image, wells, count, from, &mut profile);
-    crate::begin::begin(buffer, wells, metric, count, code, &profile[..wells]);
+    let strain = copy_out(library, from, &mut profile);
+    crate::begin::begin(buffer, library.records.shape, strain);
 }
 
 // The strain of record `from` behind the first i.
-fn lay_next(
-    image: &[u8],
-    buffer: &mut [u8],
-    metric: u8,
-    wells: usize,
-    count: usize,
-    i: usize,
-    from: usize,
-)
-    requires library { Library image.now }
-    requires metric_value { (metric ≡ metric_of image.now) × (wells ≡ wells_of image.now) × (count ≡ count_of image.now) }
-    requires filing { Filing image.now buffer.old buffer.old i }
-    requires i_nonzero { (0 < i) × (i < count) × (from ≡ get_or (order_of image.now) i 0) }
-    ensures { Filing image.now buffer.old buffer.new (i + 1) }
+fn lay_next(library: &Accepted<'_>, buffer: &mut [u8], i: usize, from: usize)
+    requires filing { Filing library.now.records.image.now buffer.old buffer.old i }
+    requires behind { 0 < i }
+    requires inside { i < library.now.records.shape.count }
+    requires next { from ≡ get_or (order_of library.now.records.image.now) i 0 }
+    ensures { Filing library.now.records.image.now buffer.old buffer.new (i + 1) }
 {
+    let shape = library.records.shape;
     let mut profile = [0i16; 16];
-    let code = order::wells::strain(image, wells, count, from, &mut profile);
-    let seat = crate::seat::find(buffer, metric, wells, count, i, &profile[..wells]);
-    crate::hang::hang(
-        buffer,
-        metric,
-        wells,
-        count,
-        i,
-        code,
-        &profile[..wells],
-        seat,
-    );
+    let strain = copy_out(library, from, &mut profile);
+    let takers = Takers {
+        records: Records {
+            image: buffer,
+            shape,
+        },
+        filled: i,
+        profile: strain.profile,
+    };
+    let seat = takers.nearest();
+    crate::hang::hang(buffer, shape, i, strain, seat);
 }
 
 // All of them, the lowest code first.
-pub fn fill(image: &[u8], buffer: &mut [u8])
-    requires library { Library image.now }
-    requires image_in_bounds { length image.now ≤ length buffer.old }
-    ensures exact { buffer.new ≡ filing_form image.now ++ drop (length (filing_form image.now)) buffer.old }
-    ensures long { length (filing_form image.now) ≡ length image.now }
+pub fn fill(library: &Accepted<'_>, buffer: &mut [u8])
+    requires { length library.now.records.image.now ≤ length buffer.old }
+    ensures exact { buffer.new ≡ filing_form library.now.records.image.now ++ drop (length (filing_form library.now.records.image.now)) buffer.old }
+    ensures long { length (filing_form library.now.records.image.now) ≡ length library.now.records.image.now }
 {
-    let metric = image::header::metric(image);
-    let wells = image::header::wells(image);
-    let count = image::header::count(image);
+    let count = library.records.shape.count;
     let mut keys = [0u64; 1024];
-    order::codes::by_code(image, count, &mut keys);
-    lay_first(
-        image,
-        buffer,
-        metric,
-        wells,
-        count,
-        order::codes::record_of(keys[0]),
-    );
-    let mut i = 1;
-    while i < count {
-        lay_next(
-            image,
-            buffer,
-            metric,
-            wells,
-            count,
-            i,
-            order::codes::record_of(keys[i]),
-        );
-        i += 1;
+    let keys = &mut keys[..count];
+    order::codes::by_code(library, keys);
+    lay_first(library, buffer, order::codes::record_of(keys[0]));
+    for i in 1..count {
+        lay_next(library, buffer, i, order::codes::record_of(keys[i]));
     }
 }

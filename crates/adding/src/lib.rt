@@ -6,5 +6,6 @@ pub mod begin; // begin.rt: a library begun with its root
 pub mod filing; // filing.rt: strains filed in order of code
 pub mod grow; // grow.rt: one strain more in a library's buffer
 mod hang; // hang.rt: a strain hung into the tree
-mod near; // near.rt: the next record that is near enough
 pub mod seat; // seat.rt: the record that takes a new strain
+pub mod strain; // strain.rt: a strain that a library is to have
+pub mod takers; // takers.rt: the records that are near enough to take it

@@ -1,76 +1,51 @@
 // The record that takes a new strain: the nearest that can, with the lowest code on a tie.
-ghost use Rattle.std.specs.Prelude.{◌≡◌, cond, ◌+◌, ◌≤◌, ◌<◌, length};
-ghost use Rattle.content.specs.Content.{record_at, first_of, nth};
-ghost use Rattle.content.specs.Adding.{parent_for};
-ghost use Rattle.adding.specs.Steps.{Filled, Seated, nearer_seat};
+ghost use Rattle.std.specs.Prelude.{◌≤◌};
 
+use crate::takers::Takers;
+use image::header::Header;
+
+// A record that may become a strain's parent.
 #[derive(Clone, Copy)]
 pub struct Seat {
     pub parent: usize,
     pub distance: u32,
     pub code: u32,
+    pub ghost near: { distance ≤ 1048560 },
 }
 
-// Record i as a seat.
-fn seat_at(
-    image: &[u8],
-    metric: u8,
-    wells: usize,
-    count: usize,
-    filled: usize,
-    profile: &[i16],
-    i: usize,
-) -> Seat
-    requires filled { Filled image.now metric wells count filled }
-    requires profile_len { (length profile.now ≡ wells) × (i < filled) }
-    ensures { Seated metric profile.now (record_at image.now) result i × (result.distance ≤ 1048560) }
-{
-    Seat {
-        parent: i,
-        distance: profile::plate::distance(
-            metric,
-            image,
-            image::node::profile_start(count, wells, i),
-            profile,
-            wells,
-        ),
-        code: image::node::code(image, i),
-    }
-}
+impl Takers<'_, '_> {
+    ghost use Rattle.std.specs.Prelude.{◌≡◌, ◌<◌};
+    ghost use Rattle.profile.specs.Metric.{metric_number};
+    ghost use Rattle.content.specs.Content.{record_at, first_of, nth};
+    ghost use Rattle.content.specs.Adding.{parent_for};
+    ghost use Rattle.adding.specs.Steps.{Seated};
 
-// The nearer of two seats; the lower code wins a tie.
-fn better(a: Seat, b: Seat) -> Seat
-    ensures { result ≡ cond (nearer_seat a b) a b }
-{
-    if (a.distance < b.distance) | ((a.distance == b.distance) & (a.code < b.code)) {
-        a
-    } else {
-        b
+    // Record i as a seat.
+    fn seat_at(&self, i: usize) -> Seat
+        requires { i < self.now.filled }
+        ensures { Seated (metric_number self.now.records.shape.metric) self.now.profile.now (record_at self.now.records.image.now) result i }
+    {
+        let shape = self.records.shape;
+        Seat {
+            parent: i,
+            distance: self.distance(shape.metric, shape.wells, i),
+            code: self.records.code(i),
+        }
     }
-}
 
-// Of the root and the filled records.
-pub fn find(
-    image: &[u8],
-    metric: u8,
-    wells: usize,
-    count: usize,
-    filled: usize,
-    profile: &[i16],
-) -> Seat
-    requires filled { Filled image.now metric wells count filled }
-    requires profile_len { length profile.now ≡ wells }
-    ensures { (result.distance ≤ 1048560) × Seated metric profile.now (nth (first_of image.now filled).records) result (parent_for (first_of image.now filled) profile.now) }
-{
-    let root = image::header::root(image);
-    let mut best = seat_at(image, metric, wells, count, filled, profile, root);
-    let mut i = crate::near::next(image, metric, wells, count, filled, profile, 0);
-    while i < filled {
-        best = better(
-            seat_at(image, metric, wells, count, filled, profile, i),
-            best,
-        );
-        i = crate::near::next(image, metric, wells, count, filled, profile, i + 1);
+    // Of the root and the records that are near enough.
+    pub fn nearest(&self) -> Seat
+        ensures { Seated (metric_number self.now.records.shape.metric) self.now.profile.now (nth (first_of self.now.records.image.now self.now.filled).records) result (parent_for (first_of self.now.records.image.now self.now.filled) self.now.profile.now) }
+    {
+        let header = Header {
+            image: self.records.image,
+        };
+        let mut best = self.seat_at(header.root());
+        let mut from = 0;
+        while let Some(i) = self.next_near(from) {
+            best = std::cmp::min_by_key(best, self.seat_at(i), |seat| (seat.distance, seat.code));
+            from = i + 1;
+        }
+        best
     }
-    best
 }

@@ -1,6 +1,5 @@
 -- The laws that the calls rest on.
 pub mod Offers
-pub mod StrainRules
 pub mod Room
 pub mod Calls
 pub mod Passed

@@ -8,7 +8,7 @@ use Rattle.content.specs.Adding.{started}
 use Rattle.content.specs.Filing.{filing_form}
 use Rattle.adding.specs.ImageWith.{image_with}
 use Rattle.build.specs.Rules.{start_rules, add_rules, file_rules}
-use Rattle.image.specs.declared.refusal.Answered.{Answered}
+use Rattle.image.specs.Answer.{Answered}
 
 unfoldable pub start_of : (wells metric code : ℕ) → List ℤ → List ℕ → Outcome
 start_of wells metric code profile buffer =

@@ -20,11 +20,13 @@ use Rattle.tree.proofs.Root.{cover_tree}
 use Rattle.tree.proofs.Separation.{pairs_of_sets}
 use Rattle.image.specs.Fields.{wells_of, metric_of, count_of, root_of, code_at, parent_at, level_byte_at, level_at, distance_at}
 use Rattle.image.specs.Library.{Layout, tree_of, Library}
-use Rattle.image.specs.Verdict.{accepted}
-use Rattle.checker.specs.declared.Checked.{Checked}
-use Rattle.checker.specs.declared.Checked.TheVariants.{Accepted}
-use Rattle.checker.specs.Tests.{outside, bad_node, bad_level, bad_cover, same_code, too_near}
-use Rattle.checker.specs.Check.{check_of, answer_of}
+use Rattle.image.specs.Verdict.{accepted, judge}
+use Rattle.image.proofs.Verdicts.{pass}
+use Rattle.checker.specs.Check.{Checked}
+use Rattle.checker.specs.Tests.{outside, bad_size, bad_node, bad_level, bad_cover, same_code, too_near}
+use Rattle.std.specs.Prelude.{Ok}
+use Rattle.image.specs.Answer.{verdict_of}
+use Rattle.checker.specs.Check.{header_rules, check_rules, check_of}
 use Rattle.image.proofs.Tests.{told_false, tells_or, tells_le}
 use Rattle.checker.proofs.Table.{tells_outside, tells_other, tells_node, tells_code, tells_level, tells_cover, tells_near}
 use Rattle.checker.proofs.Passed.{or_false, inside, GoodNode, good_node}
@@ -204,6 +206,11 @@ passes_of xs v =
 pub accepted_exactly : (xs : List ℕ) → (check_of xs ≡ accepted) ↔ Library xs
 accepted_exactly xs = (λ e. library_of xs (passes xs e), λ v. sym (accepts xs (passes_of xs v)))
 
--- what a caller knows where the check's answer was `Accepted`
-pub if_accepted : (xs : List ℕ) (r : Checked) → answer_of r ≡ check_of xs → r ≡ Accepted → Library xs
-if_accepted xs r p q = (accepted_exactly xs).0 (sym p ∙ ap answer_of q)
+-- what a caller knows where the check's answer was `Ok`
+pub if_accepted : (xs : List ℕ) (r : Checked) → verdict_of r ≡ check_of xs → r ≡ Ok tt → Library xs
+if_accepted xs r p q = (accepted_exactly xs).0 (sym p ∙ ap verdict_of q)
+
+-- and where it refuses by none of its rules
+pub past_all : (xs ys : List ℕ) → ys ≡ xs → bad_size xs ≡ false → accepted ≡ judge (header_rules xs) → Library ys
+unfolding check_of check_rules
+past_all xs ys same size e = rw same ((accepted_exactly xs).0 (sym (pass _ _ _ _ size e)))

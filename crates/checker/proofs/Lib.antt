@@ -1,5 +1,4 @@
 -- The laws of the check.
-pub mod Near
 pub mod Marks
 pub mod Passed
 pub mod Table

@@ -1,39 +1,39 @@
 -- A code whose slot has no mark is the code of no earlier record. Assumes nothing.
-use mathlib.Core.Path.{◌≡◌, sym, ◌∙◌, ap}
-use mathlib.Core.Logic.{◌≢◌, ⊎_elim}
-use mathlib.Core.Bool.{false}
+use mathlib.Core.Path.{◌≡◌, ◌∙◌}
+use mathlib.Core.Bool.{Bool, true, false}
 use mathlib.Core.List.{List}
-use Prim.Native.Nat.{ℕ, ◌+◌, ◌<◌}
-use native.Mathlib.Nat.{eq-or-lt_of_le}
-use native.Mathlib.Decide.{ℕ_discrete}
+use Prim.Native.Nat.{ℕ, ◌+◌, ◌%◌, ◌<◌}
 use native.Mathlib.Omega.{arith}
-use lib.ListN.{length, get_or, set, length-set}
-use lib.Seq.{get_or-set_same, get_or-set_other}
+use lib.ListN.{length, get_or, set, length-set, length-replicate, replicate}
 use borrow.Author.Tests.{ne_eqb}
+use borrow.Author.Count.{below_more}
+use Rattle.std.proofs.lemmas.Grind.{common_steps}
+use Rattle.std.specs.Prelude.{None}
 use Rattle.image.specs.Fields.{code_at}
+use Rattle.image.specs.First.{first_some}
+use Rattle.image.proofs.Searches.{none_some}
 use Rattle.checker.specs.Tests.{same_code}
-use Rattle.checker.specs.Marks.{slot_of}
 
 -- there is a mark for each slot, and the slot of every record before `later` is marked
-pub record Marked (xs marks : List ℕ) (later : ℕ) : Type 0 where
+pub record Marked (xs : List ℕ) (marks : List Bool) (later : ℕ) : Type 0 where
   pub all : length marks ≡ 2048
-  pub marked : (k : ℕ) → k < later → get_or marks (slot_of xs k) 0 ≢ 0
+  pub marked : (k : ℕ) → k < later → get_or marks (code_at xs k % 2048) false ≡ true
 
-pub no_marks : (xs marks : List ℕ) → length marks ≡ 2048 → Marked xs marks 0
-no_marks xs marks l = record { all = l; marked = λ k h. absurd (omega arith) }
+pub no_marks : (xs : List ℕ) → Marked xs (replicate 2048 false) 0
+no_marks xs = record { all = length-replicate {A = Bool} 2048 false; marked = λ k h. absurd (omega arith) }
 
-pub unmarked : {xs marks : List ℕ} {later slot : ℕ} → Marked xs marks later → slot ≡ slot_of xs later → get_or marks slot 0 ≡ 0
-    → (k : ℕ) → k < later → same_code xs later k ≡ false
-unfolding same_code slot_of
-unmarked {xs} {marks} {later} {slot} m s z k h =
-    ne_eqb (code_at xs later) (code_at xs k) (λ e. m.marked k h (rw (← e, ← s) z))
+pub unmarked : (xs : List ℕ) (marks : List Bool) (later : ℕ) → Marked xs marks later → get_or marks (code_at xs later % 2048) false ≡ false
+    → first_some later (same_code xs later) ≡ None
+unfolding same_code
+unmarked xs marks later m z =
+    none_some later _ (λ k h. ne_eqb (code_at xs later) (code_at xs k) (λ e. let t = m.marked k h in cc))
 
-pub mark_more : {xs marks : List ℕ} {later slot : ℕ} → Marked xs marks later → slot ≡ slot_of xs later → slot < 2048
-    → Marked xs (set marks slot 1) (later + 1)
-mark_more {xs} {marks} {later} {slot} m s l = record { all = length-set marks slot 1 ∙ m.all; marked = λ k h. by k h (ℕ_discrete (slot_of xs k) slot) }
-  where
-    by : (k : ℕ) → k < later + 1 → Dec (slot_of xs k ≡ slot) → get_or (set marks slot 1) (slot_of xs k) 0 ≢ 0
-    by k h (yes e) = rw (e, get_or-set_same marks slot 1 0 (omega (arith, m.all))) (λ z. absurd (omega arith))
-    by k h (no ne) =
-        rw (get_or-set_other marks slot (slot_of xs k) 1 0 ne)
-        (⊎_elim (λ (e : k ≡ later). absurd (ne (ap (slot_of xs) e ∙ sym s))) (λ (u : k < later). m.marked k u) (eq-or-lt_of_le (omega arith)))
+pub mark_more : (xs : List ℕ) (marks : List Bool) (later : ℕ) → Marked xs marks later → Marked xs (set marks (code_at xs later % 2048) true) (later + 1)
+mark_more xs marks later m =
+    let slot : ℕ = code_at xs later % 2048 in
+    record {
+      all = length-set marks slot true ∙ m.all;
+      marked = below_more _ _ (λ k h. let e = m.marked k h in grind (arith, common_steps)) (grind (arith, common_steps, m.all));
+    }
+
+pub ruleset marks = (no_marks, unmarked, mark_more)

@@ -1,16 +1,12 @@
 -- The check accepts exactly where every rule's test fails. Assumes nothing.
-use mathlib.Core.Path.{◌≡◌, refl}
+use mathlib.Core.Path.{◌≡◌, ◌∙◌}
 use mathlib.Core.Bool.{Bool, false}
 use mathlib.Core.List.{List, ◌∷◌}
 use Prim.Native.Nat.{ℕ, ◌<◌}
-use native.Mathlib.Nat.{le_refl}
-use native.Mathlib.Omega.{arith}
-use borrow.Author.Tests.{le-ltb}
 use Rattle.image.specs.Fields.{count_of}
-use Rattle.image.specs.First.{first_below}
 use Rattle.image.specs.Verdict.{accepted, Rule, rule, at_first, at_pair, judge}
-use Rattle.image.proofs.First.{none_found, NoPair, no_pair_found}
-use Rattle.image.proofs.Verdicts.{pass, pass_first, pass_pair, accepted_none, past, when_none, first_passed, pair_passed}
+use Rattle.image.proofs.Searches.{none_some, record_none, pair_none}
+use Rattle.image.proofs.Verdicts.{judge_none, pass, accepted_none, past, when_none, first_passed, pair_passed}
 use Rattle.checker.specs.Tests.{bad_size, bad_edition, bad_wells, bad_metric, bad_count, bad_offsets, bad_length, bad_root, bad_node, bad_level, bad_cover, same_code, too_near}
 use Rattle.checker.specs.Check.{tree_rules, record_rules, layout_rules, header_rules, check_rules, check_of}
 
@@ -67,13 +63,11 @@ passes xs e =
 -- ---- and what passes each rule is accepted
 
 first_pass : (m n : ℕ) (p : ℕ → Bool) (rules : List Rule) → ((i : ℕ) → i < n → p i ≡ false) → accepted ≡ judge rules → accepted ≡ judge (rule m (at_first n p) ∷ rules)
-first_pass m n p rules all q = pass_first m rules accepted n n n p refl (none_found (le_refl n) all) (le_refl n) q
+first_pass m n p rules all q = q ∙ judge_none m (at_first n p) rules (record_none n p all)
 
 pair_pass : (m n : ℕ) (p : ℕ → ℕ → Bool) (rules : List Rule) → ((later earlier : ℕ) → later < n → earlier < later → p later earlier ≡ false)
     → accepted ≡ judge rules → accepted ≡ judge (rule m (at_pair n p) ∷ rules)
-pair_pass m n p rules all q =
-    let no : NoPair p n = record { none = λ l h. le-ltb (first_below l (p l)) l (omega (arith, none_found (le_refl l) (λ e m. all l e h m))) } in
-    pass_pair m rules accepted n n n p refl (no_pair_found (le_refl n) no) (le_refl n) q
+pair_pass m n p rules all q = q ∙ judge_none m (at_pair n p) rules (pair_none n p (λ later h. none_some later (p later) (λ k l. all later k h l)))
 
 pub accepts : (xs : List ℕ) → Passes xs → accepted ≡ check_of xs
 unfolding check_of check_rules header_rules layout_rules record_rules tree_rules

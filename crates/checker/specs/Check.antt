@@ -1,11 +1,10 @@
 -- The check: the rules of document 01's table on a library's bytes, in order. Assumes nothing.
-use Rattle.std.specs.Prelude.{◌≡◌, List, [], ◌∷◌, ℕ}
+use Rattle.std.specs.Prelude.{◌≡◌, Result, ⊤, List, [], ◌∷◌, ℕ}
 use Rattle.image.specs.Fields.{count_of}
-use Rattle.image.specs.Refusals.{number_of, place_of}
-use Rattle.image.specs.Verdict.{Verdict, accepted, refused, Rule, rule, when, at_first, at_pair, judge}
+use Rattle.image.specs.declared.refusal.Refusal.{Refusal}
+use Rattle.image.specs.Answer.{verdict_of}
+use Rattle.image.specs.Verdict.{Verdict, Rule, rule, when, at_first, at_pair, judge}
 use Rattle.checker.specs.Tests.{bad_size, bad_edition, bad_wells, bad_metric, bad_count, bad_offsets, bad_length, bad_root, bad_node, bad_level, bad_cover, same_code, too_near}
-use Rattle.checker.specs.declared.Checked.{Checked}
-use Rattle.checker.specs.declared.Checked.TheVariants.{Accepted, Refused}
 
 -- 11 to 13
 unfoldable pub tree_rules : List ℕ → List Rule
@@ -46,11 +45,10 @@ check_rules xs = rule 1 (when (bad_size xs)) ∷ header_rules xs
 unfoldable pub check_of : List ℕ → Verdict
 check_of xs = judge (check_rules xs)
 
--- what document 01 says of an answer
-abbrev pub answer_of : Checked → Verdict
-answer_of Accepted = accepted
-answer_of (Refused r) = refused (number_of r) (place_of r)
+-- the answer of the check
+abbrev pub Checked : Type 0
+Checked = Result ⊤ Refusal
 
 -- the contract: the answer is the verdict
 abbrev pub CheckGives : (image : List ℕ) → Checked → Type 0
-CheckGives image r = answer_of r ≡ check_of image
+CheckGives image r = verdict_of r ≡ check_of image

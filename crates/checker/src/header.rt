@@ -1,101 +1,73 @@
-// Rules 2 to 8: the header.
-ghost use Rattle.std.specs.Prelude.{◌≡◌, false, ◌≤◌, length};
+// Rules 2 to 8: the header. Past all rules, what it says is handed on.
+ghost use Rattle.std.specs.Prelude.{◌≡◌, IfOk};
+ghost use Rattle.profile.specs.Metric.{metric_number};
+ghost use Rattle.image.specs.Fields.{wells_of, metric_of, count_of};
 ghost use Rattle.image.specs.Verdict.{judge};
-ghost use Rattle.checker.specs.Tests.{bad_edition, bad_wells, bad_metric, bad_count, bad_offsets, bad_length, bad_root};
-ghost use Rattle.checker.specs.Check.{header_rules, layout_rules, answer_of};
+ghost use Rattle.image.specs.Answer.{verdict_of};
+ghost use Rattle.checker.specs.Check.{header_rules, layout_rules};
 
-use crate::Checked;
+use crate::headed::Headed;
+use crate::range::outside;
+use image::header::Header;
+use image::records::Records;
 use image::refusal::{Place, Refusal};
-
-fn bad_edition(image: &[u8]) -> bool
-    requires { 16 ≤ length image.now }
-    ensures { result ≡ bad_edition image.now }
-{
-    image::header::edition(image) != 1
-}
-
-fn bad_wells(image: &[u8]) -> bool
-    requires { 16 ≤ length image.now }
-    ensures { result ≡ bad_wells image.now }
-{
-    crate::range::outside(1, 16, image::header::wells(image))
-}
-
-fn bad_metric(image: &[u8]) -> bool
-    requires { 16 ≤ length image.now }
-    ensures { result ≡ bad_metric image.now }
-{
-    crate::range::outside(1, 2, image::header::metric(image) as usize)
-}
-
-fn bad_count(image: &[u8]) -> bool
-    requires { 16 ≤ length image.now }
-    ensures { result ≡ bad_count image.now }
-{
-    crate::range::outside(1, 1024, image::header::count(image))
-}
-
-fn bad_offsets(image: &[u8]) -> bool
-    requires { 16 ≤ length image.now }
-    ensures { result ≡ bad_offsets image.now }
-{
-    (image::header::profiles_offset(image) != 16 + 8 * image::header::count(image))
-        | (image::header::nodes_offset(image) != 16)
-}
-
-fn bad_length(image: &[u8]) -> bool
-    requires { 16 ≤ length image.now }
-    ensures { result ≡ bad_length image.now }
-{
-    let wells = image::header::wells(image);
-    let count = image::header::count(image);
-    image.len() != 16 + 8 * count + 2 * (wells * count)
-}
-
-fn bad_root(image: &[u8]) -> bool
-    requires { 16 ≤ length image.now }
-    ensures { result ≡ bad_root image.now }
-{
-    image::header::count(image) <= image::header::root(image)
-}
+use image::shape::Shape;
+use profile::metric::Metric;
 
 // Rules 6 to 13.
-fn layout_rules(image: &[u8]) -> Checked
-    requires in_bounds { 16 ≤ length image.now }
-    requires image_value { (bad_wells image.now ≡ false) × (bad_metric image.now ≡ false) × (bad_count image.now ≡ false) }
-    ensures { answer_of result ≡ judge (layout_rules image.now) }
+#[tactic(auto, unfolding(crate::specs::Check::layout_rules), using(image::proofs::Verdicts::verdicts))]
+fn layout_rules<'a>(header: Header<'a>, shape: Shape) -> Result<Headed<'a>, Refusal>
+    requires is_metric { metric_number shape.metric ≡ metric_of header.image.now }
+    requires is_wells { shape.wells ≡ wells_of header.image.now }
+    requires is_count { shape.count ≡ count_of header.image.now }
+    ensures verdict { verdict_of result ≡ judge (layout_rules header.entry.image.now) }
+    ensures same { IfOk result (λ headed. headed.records.image.now ≡ header.entry.image.now) }
 {
-    if bad_offsets(image) {
-        return Checked::Refused(Refusal::Offsets(Place::None));
+    if header.profiles_offset() != 16 + 8 * shape.count || header.nodes_offset() != 16 {
+        return Err(Refusal::Offsets(Place::None));
     }
-    if bad_length(image) {
-        return Checked::Refused(Refusal::Length(Place::None));
+    let image = header.image;
+    if image.len() != shape.size() {
+        return Err(Refusal::Length(Place::None));
     }
-    if bad_root(image) {
-        return Checked::Refused(Refusal::RootNumber(Place::None));
+    let root = header.root();
+    if shape.count <= root {
+        return Err(Refusal::RootNumber(Place::None));
     }
-    let metric = image::header::metric(image);
-    let wells = image::header::wells(image);
-    let count = image::header::count(image);
-    crate::records::rules(image, metric, wells, count)
+    let headed = Headed {
+        records: Records { image, shape },
+        root,
+    };
+    headed.record_rules()?;
+    Ok(headed)
 }
 
 // Rules 2 to 13.
-pub fn rules(image: &[u8]) -> Checked
-    requires { 16 ≤ length image.now }
-    ensures { answer_of result ≡ judge (header_rules image.now) }
+#[tactic(auto, unfolding(crate::specs::Check::header_rules), using(image::proofs::Verdicts::verdicts, crate::proofs::Passed::numbers))]
+pub fn rules<'a>(header: Header<'a>) -> Result<Headed<'a>, Refusal>
+    ensures verdict { verdict_of result ≡ judge (header_rules header.entry.image.now) }
+    ensures same { IfOk result (λ headed. headed.records.image.now ≡ header.entry.image.now) }
 {
-    if bad_edition(image) {
-        return Checked::Refused(Refusal::Edition(Place::None));
+    if header.edition() != 1 {
+        return Err(Refusal::Edition(Place::None));
     }
-    if bad_wells(image) {
-        return Checked::Refused(Refusal::Wells(Place::None));
+    let wells = header.wells();
+    if outside(1, 16, wells) {
+        return Err(Refusal::Wells(Place::None));
     }
-    if bad_metric(image) {
-        return Checked::Refused(Refusal::Metric(Place::None));
+    let Ok(metric) = Metric::try_from(header.metric()) else {
+        return Err(Refusal::Metric(Place::None));
+    };
+    let count = header.count();
+    if outside(1, 1024, count) {
+        return Err(Refusal::Count(Place::None));
     }
-    if bad_count(image) {
-        return Checked::Refused(Refusal::Count(Place::None));
-    }
-    layout_rules(image)
+    layout_rules(
+        header,
+        Shape {
+            metric,
+            wells,
+            count,
+        },
+    )
 }

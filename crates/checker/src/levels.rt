@@ -1,31 +1,32 @@
 // Rule 11: the root's parent is itself, and every other level is below the parent's.
 ghost use Rattle.std.specs.Prelude.{◌≡◌, ◌<◌};
-ghost use Rattle.image.specs.First.{first_below};
-ghost use Rattle.checker.specs.Laid.{Noded};
+ghost use Rattle.image.specs.Fields.{count_of};
+ghost use Rattle.image.specs.Verdict.{at_first};
 ghost use Rattle.checker.specs.Tests.{bad_level};
 
-fn bad(image: &[u8], metric: u8, wells: usize, count: usize, i: usize) -> bool
-    requires noded { Noded image.now metric wells count }
-    requires i_lt_count { i < count }
-    ensures { result ≡ bad_level image.now i }
-{
-    let root = image::header::root(image);
-    let parent = crate::nodes::parent(image, metric, wells, count, i);
-    ((i == root) & (parent != i))
-        | ((i != root) & (image::node::level(image, parent) <= image::node::level(image, i)))
-}
+use crate::noded::Noded;
+use image::refusal::Place;
 
-// The first record at which it fails, or the count where there is none.
-pub fn first_bad(image: &[u8], metric: u8, wells: usize, count: usize) -> usize
-    requires { Noded image.now metric wells count }
-    ensures { result ≡ first_below count (bad_level image.now) }
-{
-    let mut i = 0;
-    while i < count {
-        if bad(image, metric, wells, count, i) {
-            return i;
+impl<'a> Noded<'a> {
+    #[tactic(auto, unfolding(crate::specs::Tests::bad_level))]
+    fn is_bad_level(&self, i: usize) -> bool
+        requires { i < self.now.headed.records.shape.count }
+        ensures { result ≡ bad_level self.now.headed.records.image.now i }
+    {
+        let parent = self.parent(i);
+        if i == self.headed.root {
+            parent != i
+        } else {
+            self.headed.records.level(parent) <= self.headed.records.level(i)
         }
-        i += 1;
     }
-    count
+
+    // The first record at which it fails.
+    pub fn bad_level(&self) -> Option<Place>
+        ensures { result ≡ at_first (count_of self.now.headed.records.image.now) (bad_level self.now.headed.records.image.now) }
+    {
+        (0..self.headed.records.shape.count)
+            .find(|i| self.is_bad_level(*i))
+            .map(Place::Record)
+    }
 }

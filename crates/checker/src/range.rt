@@ -6,5 +6,5 @@ ghost use Rattle.checker.specs.Tests.{outside as outside_of};
 pub fn outside(low: usize, high: usize, x: usize) -> bool
     ensures { result ≡ outside_of low high x }
 {
-    (x < low) | (high < x)
+    !(low..=high).contains(&x)
 }

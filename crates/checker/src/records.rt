@@ -1,46 +1,44 @@
 // Rules 9 to 13, in their order.
 ghost use Rattle.std.specs.Prelude.{◌≡◌};
 ghost use Rattle.image.specs.Verdict.{judge};
-ghost use Rattle.checker.specs.Laid.{Laid, Noded};
-ghost use Rattle.checker.specs.Check.{tree_rules, record_rules, answer_of};
+ghost use Rattle.image.specs.Answer.{verdict_of};
+ghost use Rattle.checker.specs.Check.{tree_rules, record_rules};
 
-use crate::Checked;
-use image::refusal::{Place, Refusal};
+use crate::headed::Headed;
+use crate::noded::Noded;
+use image::refusal::Refusal;
 
-// Rules 11 to 13.
-fn tree_rules(image: &[u8], metric: u8, wells: usize, count: usize) -> Checked
-    requires { Noded image.now metric wells count }
-    ensures { answer_of result ≡ judge (tree_rules image.now) }
-{
-    let level = crate::levels::first_bad(image, metric, wells, count);
-    if level < count {
-        return Checked::Refused(Refusal::Level(Place::Record(level)));
+impl<'a> Headed<'a> {
+    // Rules 9 to 13.
+    #[tactic(auto, unfolding(crate::specs::Check::record_rules), using(image::proofs::Verdicts::verdicts, crate::proofs::Passed::nodes))]
+    pub fn record_rules(&self) -> Result<(), Refusal>
+        ensures { verdict_of result ≡ judge (record_rules self.now.records.image.now) }
+    {
+        if let Some(place) = self.bad_node() {
+            return Err(Refusal::Node(place));
+        }
+        if let Some(place) = self.equal_codes() {
+            return Err(Refusal::EqualCodes(place));
+        }
+        Noded { headed: *self }.tree_rules()
     }
-    let cover = crate::cover::first_bad(image, metric, wells, count);
-    if cover < count {
-        return Checked::Refused(Refusal::Cover(Place::Record(cover)));
-    }
-    let later = crate::separation::later_near(image, metric, wells, count);
-    if later < count {
-        let earlier = crate::separation::first_near(image, metric, wells, count, later);
-        return Checked::Refused(Refusal::Separation(Place::Pair { earlier, later }));
-    }
-    Checked::Accepted
 }
 
-// Rules 9 to 13.
-pub fn rules(image: &[u8], metric: u8, wells: usize, count: usize) -> Checked
-    requires { Laid image.now metric wells count }
-    ensures { answer_of result ≡ judge (record_rules image.now) }
-{
-    let node = crate::nodes::first_bad(image, metric, wells, count);
-    if node < count {
-        return Checked::Refused(Refusal::Node(Place::Record(node)));
+impl<'a> Noded<'a> {
+    // Rules 11 to 13.
+    #[tactic(auto, unfolding(crate::specs::Check::tree_rules), using(image::proofs::Verdicts::verdicts))]
+    pub fn tree_rules(&self) -> Result<(), Refusal>
+        ensures { verdict_of result ≡ judge (tree_rules self.now.headed.records.image.now) }
+    {
+        if let Some(place) = self.bad_level() {
+            return Err(Refusal::Level(place));
+        }
+        if let Some(place) = self.bad_cover() {
+            return Err(Refusal::Cover(place));
+        }
+        if let Some(place) = self.too_near() {
+            return Err(Refusal::Separation(place));
+        }
+        Ok(())
     }
-    let later = crate::codes::later_same(image, metric, wells, count);
-    if later < count {
-        let earlier = crate::codes::first_same(image, metric, wells, count, later);
-        return Checked::Refused(Refusal::EqualCodes(Place::Pair { earlier, later }));
-    }
-    tree_rules(image, metric, wells, count)
 }

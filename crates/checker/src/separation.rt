@@ -1,101 +1,101 @@
 // Rule 13: any two records lie further apart than 2^m, m being the lower of their levels. Every pair is measured, so the inner loop is
 // kept tight: metric and width are written out above it, and the later record's limit is tried before the earlier one's is read.
 ghost use Rattle.std.specs.Prelude.{◌≡◌, ◌<◌};
-ghost use Rattle.image.specs.Fields.{level_at};
-ghost use Rattle.image.specs.First.{first_below, later_below};
 ghost use Rattle.profile.specs.Level.{cover_limit};
-ghost use Rattle.checker.specs.Laid.{Noded};
+ghost use Rattle.image.specs.Fields.{level_at, count_of};
+ghost use Rattle.image.specs.First.{first_some};
+ghost use Rattle.image.specs.Verdict.{at_pair};
 ghost use Rattle.checker.specs.Tests.{too_near};
 
-// Whether an earlier record lies too near to a later one, whose cover limit is given.
-fn near(
-    image: &[u8],
-    metric: u8,
-    wells: usize,
-    count: usize,
-    later: usize,
-    limit: u32,
-    earlier: usize,
-) -> bool
-    requires noded { Noded image.now metric wells count }
-    requires later_lt_count { (later < count) × (earlier < count) × (limit ≡ cover_limit (level_at image.now later)) }
-    ensures { result ≡ too_near image.now later earlier }
-{
-    let double = 2 * crate::apart::apart(image, metric, wells, count, later, earlier);
-    if limit < double {
-        return false;
-    }
-    double <= crate::nodes::cover_limit(image, metric, wells, count, earlier)
-}
+use crate::headed::Headed;
+use crate::noded::Noded;
+use image::records::Records;
+use image::refusal::Place;
+use image::shape::Shape;
+use profile::metric::Metric;
+use profile::written_out::{Task, written_out};
 
-// The first earlier record that lies too near to a later one, or the later one where there is none.
-fn first_near_at(image: &[u8], metric: u8, wells: usize, count: usize, later: usize) -> usize
-    requires noded { Noded image.now metric wells count }
-    requires later_lt_count { later < count }
-    ensures { result ≡ first_below later (too_near image.now later) }
-{
-    let limit = crate::nodes::cover_limit(image, metric, wells, count, later);
-    let mut earlier = 0;
-    while earlier < later {
-        if near(image, metric, wells, count, later, limit, earlier) {
-            return earlier;
+impl<'a> Noded<'a> {
+    // Whether an earlier record lies too near to a later one, whose cover limit is given.
+    #[inline(always)]
+    #[tactic(auto, unfolding(crate::specs::Tests::too_near), using(profile::proofs::Levels::cover_lower, std::proofs::lemmas::Bool::Decides::nat_tests))]
+    fn is_too_near(&self, later: usize, limit: u32, earlier: usize) -> bool
+        requires later_in { later < self.now.headed.records.shape.count }
+        requires earlier_in { earlier < self.now.headed.records.shape.count }
+        requires limit { limit ≡ cover_limit (level_at self.now.headed.records.image.now later) }
+        ensures { result ≡ too_near self.now.headed.records.image.now later earlier }
+    {
+        let double = 2 * self.headed.apart(later, earlier);
+        double <= limit && double <= self.cover_limit(earlier)
+    }
+
+    // The first earlier record that lies too near to a later one.
+    #[inline(always)]
+    #[tactic(auto, using(image::proofs::Searches::searches))]
+    fn first_near(&self, later: usize) -> Option<usize>
+        requires { later < self.now.headed.records.shape.count }
+        ensures { result ≡ first_some later (too_near self.now.headed.records.image.now later) }
+    {
+        let limit = self.cover_limit(later);
+        // a loop, since `find` is slower: its closure is not inlined, and a check takes three times as long
+        for earlier in 0..later {
+            if self.is_too_near(later, limit, earlier) {
+                return Some(earlier);
+            }
         }
-        earlier += 1;
+        None
     }
-    later
-}
 
-// The same, with the metric written out.
-fn first_near_by_metric(image: &[u8], metric: u8, wells: usize, count: usize, later: usize) -> usize
-    requires noded { Noded image.now metric wells count }
-    requires later_lt_count { later < count }
-    ensures { result ≡ first_below later (too_near image.now later) }
-{
-    if metric == 1 {
-        first_near_at(image, 1, wells, count, later)
-    } else {
-        first_near_at(image, 2, wells, count, later)
-    }
-}
-
-// The same, with each width written out. No width that passed rule 3 comes to the last arm, which a match on a number needs.
-pub fn first_near(image: &[u8], metric: u8, wells: usize, count: usize, later: usize) -> usize
-    requires noded { Noded image.now metric wells count }
-    requires later_lt_count { later < count }
-    ensures { result ≡ first_below later (too_near image.now later) }
-{
-    match wells {
-        1 => first_near_by_metric(image, metric, 1, count, later),
-        2 => first_near_by_metric(image, metric, 2, count, later),
-        3 => first_near_by_metric(image, metric, 3, count, later),
-        4 => first_near_by_metric(image, metric, 4, count, later),
-        5 => first_near_by_metric(image, metric, 5, count, later),
-        6 => first_near_by_metric(image, metric, 6, count, later),
-        7 => first_near_by_metric(image, metric, 7, count, later),
-        8 => first_near_by_metric(image, metric, 8, count, later),
-        9 => first_near_by_metric(image, metric, 9, count, later),
-        10 => first_near_by_metric(image, metric, 10, count, later),
-        11 => first_near_by_metric(image, metric, 11, count, later),
-        12 => first_near_by_metric(image, metric, 12, count, later),
-        13 => first_near_by_metric(image, metric, 13, count, later),
-        14 => first_near_by_metric(image, metric, 14, count, later),
-        15 => first_near_by_metric(image, metric, 15, count, later),
-        16 => first_near_by_metric(image, metric, 16, count, later),
-        _ => first_near_by_metric(image, metric, wells, count, later),
-    }
-}
-
-// The first later record that has such an earlier one, or the count where there is none.
-pub fn later_near(image: &[u8], metric: u8, wells: usize, count: usize) -> usize
-    requires { Noded image.now metric wells count }
-    ensures { result ≡ later_below count (too_near image.now) }
-{
-    let mut later = 0;
-    while later < count {
-        if first_near(image, metric, wells, count, later) < later {
-            return later;
+    // The first later record that has such an earlier one.
+    #[inline(always)]
+    #[tactic(auto, using(image::proofs::Searches::searches))]
+    fn first_pair(&self) -> Option<Place>
+        ensures { result ≡ at_pair (count_of self.now.headed.records.image.now) (too_near self.now.headed.records.image.now) }
+    {
+        for later in 0..self.headed.records.shape.count {
+            if let Some(earlier) = self.first_near(later) {
+                return Some(Place::Pair { earlier, later });
+            }
         }
-        later += 1;
+        None
     }
-    count
+
+    // The same, with the metric and the width written out. Inlined, it would be taken for rare, and its loops would not be aligned.
+    #[inline(never)]
+    pub fn too_near(&self) -> Option<Place>
+        ensures { result ≡ at_pair (count_of self.now.headed.records.image.now) (too_near self.now.headed.records.image.now) }
+    {
+        let shape = self.headed.records.shape;
+        written_out(Separation(*self), shape.metric, shape.wells)
+    }
+}
+
+// What is done by a metric and a width that stand in the code.
+#[derive(Clone, Copy)]
+struct Separation<'a>(Noded<'a>);
+
+impl Task for Separation<'_> {
+    type Output = Option<Place>;
+
+    ghost can_run = { λ s metric wells. (metric ≡ s.0.headed.records.shape.metric) × (wells ≡ s.0.headed.records.shape.wells) };
+
+    ghost run_gives = { λ s _ _ place. place ≡ at_pair (count_of s.0.headed.records.image.now) (too_near s.0.headed.records.image.now) };
+
+    #[inline(always)]
+    fn run(self, metric: Metric, wells: usize) -> Option<Place> {
+        let Headed { records, root } = self.0.headed;
+        let shape = Shape {
+            metric,
+            wells,
+            count: records.shape.count,
+        };
+        let records = Records {
+            image: records.image,
+            shape,
+        };
+        let noded = Noded {
+            headed: Headed { records, root },
+        };
+        noded.first_pair()
+    }
 }

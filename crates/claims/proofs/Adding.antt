@@ -1,4 +1,5 @@
 -- Demand 2, the addition: an accepted library with the old strains and the new one, hung in as document 01 says. Assumes nothing.
+use Rattle.std.specs.Prelude.{Ok}
 use mathlib.Core.Path.{◌≡◌, sym, ◌∙◌, ap, subst}
 use mathlib.Core.List.{List}
 use Prim.Native.Nat.{ℕ, ◌<◌}
@@ -11,14 +12,13 @@ use Rattle.image.specs.Answer.{given}
 use Rattle.content.specs.Bytes.{Bytes}
 use Rattle.content.specs.Content.{content_of}
 use Rattle.content.specs.Adding.{started, parent_for}
-use Rattle.image.specs.declared.refusal.Answered.{Answered}
 use Rattle.build.specs.Calls.{add_of, AddGives}
 use Rattle.build.proofs.Theorems.{start_accepted, start_says, start_keeps_rest, add_was_accepted, add_accepted, add_keeps_wells, add_keeps_metric, add_keeps_strains, add_keeps_rest, add_nearest, add_lowest_code, add_grown}
 use Rattle.claims.specs.Demand2.{AddedTo, Adding}
 use Rattle.claims.proofs.Parts.{answer_is, buffer_is}
 
 module _ (buffer : List ℕ) (stated code : ℕ) (profile : List ℤ) (n : ℕ) (buffer' : List ℕ) (b : Bytes buffer) (code_fits : code < 4294967296) (values : Wells profile)
-    (e : AddGives buffer stated code profile (Answered.Length n) buffer') where
+    (e : AddGives buffer stated code profile (Ok n) buffer') where
   told : (add_of buffer stated code profile).answer ≡ given n
   told = sym (answer_is e)
 

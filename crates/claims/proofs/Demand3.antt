@@ -1,4 +1,5 @@
 -- Demand 3, proved: one filing form for each set of strains, accepted, and with the same answers. Assumes nothing.
+use Rattle.std.specs.Prelude.{Ok}
 use mathlib.Core.Path.{◌≡◌, sym, ◌∙◌, ap}
 use mathlib.Core.List.{List}
 use Prim.Native.Nat.{ℕ, ◌≤◌}
@@ -7,7 +8,6 @@ use Rattle.image.specs.Library.{Library}
 use Rattle.image.specs.Answer.{given}
 use Rattle.image.proofs.Outcomes.{gave}
 use Rattle.content.proofs.Filing.{file_accepted, file_length, file_only_by_set, file_twice}
-use Rattle.image.specs.declared.refusal.Answered.{Answered}
 use Rattle.build.specs.Calls.{file_of}
 use Rattle.build.proofs.Passed.{file_passed}
 use Rattle.build.proofs.Theorems.{file_is}
@@ -27,7 +27,7 @@ filed_only image buffer {n} e = file_passed image (length buffer) (gave _ _ buff
 
 pub demand_3 : Demand3
 demand_3 = record {
-  given = λ image buffer b l h e. one_answer _ (Answered.Length (length image)) _ _ _ e (sym (file_is image buffer b l h));
+  given = λ image buffer b l h e. one_answer _ (Ok (length image)) _ _ _ e (sym (file_is image buffer b l h));
   only = λ image buffer e. filed_only image buffer (sym (answer_is e));
   accepted = λ image b l. (file_accepted image b l, file_length image b l);
   equal = λ xs ys bx by lx ly. file_only_by_set xs ys bx by lx ly;

@@ -2,7 +2,7 @@
 use mathlib.Core.Path.{◌≡◌, refl}
 use mathlib.Core.Bool.{cond, ◌&&◌}
 use mathlib.Core.List.{List, [], ◌∷◌}
-use mathlib.Core.Option.{none}
+use Rattle.std.specs.Prelude.{None}
 use Prim.Native.Nat.{ℕ, ◌+◌, ◌-◌, ◌^◌, ◌≤◌, ◌<◌}
 use native.Mathlib.Omega.{arith}
 use lib.Dec.{leb, eqb}
@@ -126,7 +126,7 @@ crowded =
 
 -- no two records with one parent are too near, but records 1 and 3 are
 pub siblings_only :
-    (at_pair (count_of crowded) (λ later earlier. eqb (parent_at crowded later) (parent_at crowded earlier) && too_near crowded later earlier) ≡ none)
+    (at_pair (count_of crowded) (λ later earlier. eqb (parent_at crowded later) (parent_at crowded earlier) && too_near crowded later earlier) ≡ None)
     × (check_of crowded ≡ refused 13 (Place.Pair 1 3))
 unfolding crowded signed well_at wells_at gap joined distance lower cover_limit profile_at distance_at first_from first_below later_below when at_first at_pair judge bad_node bad_level bad_cover same_code too_near tree_rules record_rules layout_rules header_rules check_rules check_of
 siblings_only = (refl, refl)

@@ -1,5 +1,8 @@
 -- On an accepted library a search that is asked as it should be is not refused, and hands back what document 01 says. Assumes nothing.
-use mathlib.Core.Path.{◌≡◌, refl, sym, ◌∙◌, ap}
+use Rattle.image.proofs.Answers.{given_ok}
+use Rattle.std.specs.Prelude.{Ok}
+use Rattle.search.specs.Answer.{counted}
+use mathlib.Core.Path.{◌≡◌, refl, sym, ◌∙◌}
 use mathlib.Core.Logic.{◌⊎◌, inl, inr}
 use mathlib.Core.Bool.{false, not, ◌||◌}
 use mathlib.Core.List.{List}
@@ -11,14 +14,13 @@ use lib.ListN.{length}
 use Rattle.image.specs.Fields.{wells_of, count_of}
 use Rattle.image.specs.Library.{Library}
 use Rattle.image.specs.Verdict.{accepted, judge}
-use Rattle.image.specs.Answer.{given}
 use Rattle.image.proofs.Tests.{told_false, tells_or}
 use Rattle.image.proofs.Verdicts.{pass}
 use Rattle.checker.specs.Tests.{outside}
 use Rattle.checker.proofs.Table.{tells_outside, tells_other}
-use Rattle.search.specs.declared.Served.{Served}
-use Rattle.search.specs.declared.Gathered.{Gathered}
-use Rattle.search.specs.Answer.{Counts, outcome, sitting_answer, within_answer}
+use Rattle.search.specs.Answer.{Served}
+use Rattle.search.specs.Answer.{Gathered}
+use Rattle.search.specs.Answer.{outcome}
 use Rattle.search.specs.Ranked.{plates_in}
 use Rattle.search.specs.Rules.{plate_rules, sitting_rules, within_rules}
 use Rattle.search.specs.Calls.{sat, sitting_of, SittingGives, around, within_of, WithinGives}
@@ -57,26 +59,17 @@ either : {A B : Type 0} → (A → ⊥) → (B → ⊥) → A ⊎ B → ⊥
 either f g (inl a) = f a
 either f g (inr b) = g b
 
-filled : (r : Served) {n : ℕ} → sitting_answer r ≡ given n → r ≡ Served.Filled n
-filled (Served.Filled m) e = ap Served.Filled (cc)
-filled (Served.Refused r) e = let z : ◌≡◌ {A = ℕ} 0 1 = cc in absurd (omega arith)
-
 pub served : (image : List ℕ) (plates : List ℤ) (k : ℕ) (codes distances : List ℕ) (r : Served) (codes' distances' : List ℕ) → Library image
-    → SittingFits image plates k codes distances → SittingGives image plates k codes distances r codes' distances' → r ≡ Served.Filled (min k (count_of image))
+    → SittingFits image plates k codes distances → SittingGives image plates k codes distances r codes' distances' → r ≡ Ok (min k (count_of image))
 served image plates k codes distances r codes' distances' l f e =
     let whole =
     told_false (tells_or (tells_other (length plates % wells_of image) 0) (tells_outside 1 64 (plates_in image plates)))
     (either (λ u. u f.whole) (either (λ u. omega (arith, u, f.some_plates)) (λ u. omega (arith, u, f.most_plates)))) in
     let some = told_false (tells_outside 1 32 k) (either (λ u. omega (arith, u, f.some)) (λ u. omega (arith, u, f.most))) in
-    filled r (told_is (e ∙ sits l plates k whole some codes distances f.codes_room f.distances_room))
-
-inside : (r : Gathered) {t : Counts} → within_answer r ≡ given t → r ≡ Gathered.Inside t.strains t.measured
-inside (Gathered.Inside n m) {t} e =
-    let z : ◌≡◌ {A = Counts} (record { strains = n; measured = m }) t = cc in ap (λ (c : Counts). Gathered.Inside c.strains c.measured) z
-inside (Gathered.Refused r) e = let z : ◌≡◌ {A = ℕ} 0 1 = cc in absurd (omega arith)
+    given_ok r (told_is (e ∙ sits l plates k whole some codes distances f.codes_room f.distances_room))
 
 pub gathered : (image : List ℕ) (plate : List ℤ) (radius : ℕ) (codes distances : List ℕ) (r : Gathered) (codes' distances' : List ℕ) → Library image
     → length plate ≡ wells_of image → count_of image ≤ length codes → count_of image ≤ length distances
-    → WithinGives image plate radius codes distances r codes' distances' → (n : ℕ) × (m : ℕ) × (r ≡ Gathered.Inside n m)
+    → WithinGives image plate radius codes distances r codes' distances' → (n : ℕ) × (m : ℕ) × (r ≡ counted n m)
 gathered image plate radius codes distances r codes' distances' l fits room room' e =
-    (_, _, inside r (told_is (e ∙ gathers l radius plate fits codes distances room room')))
+    (_, _, given_ok r (told_is (e ∙ gathers l radius plate fits codes distances room room')))

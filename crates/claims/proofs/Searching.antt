@@ -1,4 +1,6 @@
 -- Demand 2, the searches: each plate gets its true nearest strains, and within a radius exactly the strains inside it. Assumes nothing.
+use Rattle.std.specs.Prelude.{Ok}
+use Rattle.search.specs.Answer.{counted}
 use mathlib.Core.Path.{◌≡◌, refl, sym, ◌∙◌, ap}
 use mathlib.Core.Bool.{true}
 use mathlib.Core.List.{List, ◌++◌, map}
@@ -25,9 +27,7 @@ use Rattle.walk.specs.Walk.{opens, measures}
 use Rattle.walk.specs.Weighed.{weighed, found_at, reach_at}
 use Rattle.walk.specs.Measured.{is_measured, measured_count}
 use Rattle.walk.proofs.Measured.{root_measured, other_measured, measured_exactly, measures_once, measures_counted}
-use Rattle.search.specs.declared.Served.{Served}
-use Rattle.search.specs.declared.Gathered.{Gathered}
-use Rattle.search.specs.Answer.{Counts}
+use Rattle.search.specs.declared.Tally.{Tally}
 use Rattle.search.specs.Ranked.{nearest, within_radius, plates_in, plate_at, rows}
 use Rattle.search.specs.Rules.{sitting_rules, within_rules}
 use Rattle.search.specs.Calls.{code_in, distance_in, sat, sitting_of, listed, around, within_of, SittingGives, WithinGives}
@@ -62,7 +62,7 @@ module _ (image : List ℕ) (b : Bytes image) (l : Library image) (k : ℕ) (pla
       }
 
 module _ (image : List ℕ) (plates : List ℤ) (k : ℕ) (codes distances : List ℕ) (filled : ℕ) (codes' distances' : List ℕ) (b : Bytes image)
-    (e : SittingGives image plates k codes distances (Served.Filled filled) codes' distances') where
+    (e : SittingGives image plates k codes distances (Ok filled) codes' distances') where
   told : (sitting_of image plates k codes distances).answer ≡ given filled
   told = sym (told_is e)
 
@@ -118,7 +118,7 @@ module _ (image : List ℕ) (b : Bytes image) (l : Library image) (radius : ℕ)
   by_measured (Measured.child {i = i} o m h) = other_measured l radius plate i o.node o.not_root ∙ rw (le-leb _ _ h, by_measured m) refl
 
 module _ (image : List ℕ) (plate : List ℤ) (radius : ℕ) (codes distances : List ℕ) (many measured : ℕ) (codes' distances' : List ℕ) (b : Bytes image)
-    (e : WithinGives image plate radius codes distances (Gathered.Inside many measured) codes' distances') where
+    (e : WithinGives image plate radius codes distances (counted many measured) codes' distances') where
   within_granted : (judge (within_rules image (length plate) (length codes) (length distances)) ≡ accepted) × (within_of image plate radius codes distances ≡ around image plate radius codes distances)
   unfolding within_of
   within_granted = granted _ (around image plate radius codes distances) codes distances _ (sym (told_is e))
@@ -130,11 +130,11 @@ module _ (image : List ℕ) (plate : List ℤ) (radius : ℕ) (codes distances :
   unfolding within_rules check_of
   around_library = (accepted_exactly image).0 (judge_both (check_rules image) _ within_granted.0).0
 
-  counts_are : ◌≡◌ {A = Counts} (record { strains = many; measured = measured }) (record { strains = length (within_radius image radius plate); measured = measured_count image radius plate })
+  counts_are : ◌≡◌ {A = Tally} (record { strains = many; measured = measured }) (record { strains = length (within_radius image radius plate); measured = measured_count image radius plate })
   counts_are = let z = told_is around_is in cc
 
   many_is : many ≡ length (within_radius image radius plate)
-  many_is = ap (λ (c : Counts). c.strains) counts_are
+  many_is = ap (λ (c : Tally). c.strains) counts_are
 
   listed_is : (part : Found → ℕ) (lent lent' : List ℕ) → lent' ≡ listed (within_radius image radius plate) part lent → lent' ≡ map part (within_radius image radius plate) ++ drop many lent
   listed_is part lent lent' h = h ∙ ap (λ n. map part (within_radius image radius plate) ++ drop n lent) (sym many_is)
@@ -157,7 +157,7 @@ module _ (image : List ℕ) (plate : List ℤ) (radius : ℕ) (codes distances :
             (w.0, measured_by image b around_library radius plate (library_way around_library i w.0).1 w.1),
         λ w. (measured_exactly around_library radius plate i).1 (w.0, by_measured image b around_library radius plate w.1),
       )),
-      ap (λ (c : Counts). c.measured) counts_are ∙ sym (measures_counted around_library radius plate),
+      ap (λ (c : Tally). c.measured) counts_are ∙ sym (measures_counted around_library radius plate),
     );
   }
 

@@ -1,4 +1,5 @@
 -- Additions and filings that document 01 has shut out: whatever else a program of such a kind does, it does not meet the contract. Assumes nothing.
+use Rattle.std.specs.Prelude.{Ok}
 use mathlib.Core.Path.{◌≡◌, sym, ◌∙◌, ap}
 use mathlib.Core.Logic.{◌≢◌, ◌↔◌, ◌⊎◌, ⊎_elim}
 use mathlib.Core.List.{List, [], ◌∷◌, ◌++◌, Memᴰ}
@@ -14,7 +15,6 @@ use Rattle.image.specs.Strains.{Strain, strains_of, strain_of}
 use Rattle.image.proofs.Strains.{strains_length}
 use Rattle.content.specs.Bytes.{Bytes}
 use Rattle.content.proofs.Blocks.{bytes_append}
-use Rattle.image.specs.declared.refusal.Answered.{Answered}
 use Rattle.build.specs.Calls.{add_of, file_of}
 use Rattle.image.proofs.Answers.{one_answer}
 use Rattle.build.proofs.Theorems.{add_was_accepted, add_accepted, add_keeps_strains, add_changes, file_was_as_long, filed_same_strains}
@@ -51,7 +51,7 @@ seventh = record {
 
 module _ (program : AddProgram) (meets : MeetsAdd program) where
   -- an addition that is not refused
-  module _ (a : AddAsked) (n : ℕ) (e : (program a).answer ≡ Answered.Length n) where
+  module _ (a : AddAsked) (n : ℕ) (e : (program a).answer ≡ Ok n) where
     abbrev now : List ℕ
     now = (add_of a.buffer a.stated a.code a.profile).buffer
 
@@ -79,20 +79,20 @@ module _ (program : AddProgram) (meets : MeetsAdd program) where
       strains_length (take a.stated a.buffer),
     )
 
-  at_seventh : (program seventh).answer ≡ Answered.Length 66
+  at_seventh : (program seventh).answer ≡ Ok 66
   unfolding example_with
-  at_seventh = (one_answer (program seventh).answer (Answered.Length 66) _ _ _ (meets seventh) (sym (with_105 (replicate 10 0) (omega arith)))).0
+  at_seventh = (one_answer (program seventh).answer (Ok 66) _ _ _ (meets seventh) (sym (with_105 (replicate 10 0) (omega arith)))).0
 
   -- so none leaves the image as it was in all additions that are not refused
   pub no_addition_leaves_the_image :
-      ((a : AddAsked) (n : ℕ) → (program a).answer ≡ Answered.Length n
+      ((a : AddAsked) (n : ℕ) → (program a).answer ≡ Ok n
       → (take n (program a).buffer ≡ take a.stated a.buffer) ⊎ ((program a).buffer ≡ a.buffer))
       → ⊥
   no_addition_leaves_the_image bad =
       ⊎_elim (every_addition_changes_the_image seventh 66 at_seventh) (every_addition_changes_the_buffer seventh 66 at_seventh) (bad seventh 66 at_seventh)
 
   -- and none refuses all
-  pub no_addition_refuses_all : ((a : AddAsked) (n : ℕ) → (program a).answer ≢ Answered.Length n) → ⊥
+  pub no_addition_refuses_all : ((a : AddAsked) (n : ℕ) → (program a).answer ≢ Ok n) → ⊥
   no_addition_refuses_all bad = bad seventh 66 at_seventh
 
 -- ---- filing
@@ -108,16 +108,16 @@ abbrev other : FileAsked
 other = asked renamed renamed_bytes
 
 module _ (program : FilingProgram) (meets : MeetsFile program) where
-  at_eleventh : ((program eleventh).answer ≡ Answered.Length 56) × ((program eleventh).buffer ≡ example)
+  at_eleventh : ((program eleventh).answer ≡ Ok 56) × ((program eleventh).buffer ≡ example)
   unfolding example_with
-  at_eleventh = one_answer (program eleventh).answer (Answered.Length 56) _ _ _ (meets eleventh) (sym (reversed_filed (replicate 56 0) (omega arith)))
+  at_eleventh = one_answer (program eleventh).answer (Ok 56) _ _ _ (meets eleventh) (sym (reversed_filed (replicate 56 0) (omega arith)))
 
-  at_other : ((program other).answer ≡ Answered.Length 56) × ((program other).buffer ≡ renamed)
+  at_other : ((program other).answer ≡ Ok 56) × ((program other).buffer ≡ renamed)
   unfolding example_with renamed
-  at_other = one_answer (program other).answer (Answered.Length 56) _ _ _ (meets other) (sym (renamed_filed (replicate 56 0) (omega arith)))
+  at_other = one_answer (program other).answer (Ok 56) _ _ _ (meets other) (sym (renamed_filed (replicate 56 0) (omega arith)))
 
   -- every filing that is not refused is as long as the image, and holds the image's strains
-  pub every_filing_keeps_the_strains : (a : FileAsked) (n : ℕ) → (program a).answer ≡ Answered.Length n
+  pub every_filing_keeps_the_strains : (a : FileAsked) (n : ℕ) → (program a).answer ≡ Ok n
       → (n ≡ length a.image) × ((s : Strain) → Memᴰ s (strains_of (take n (program a).buffer)) ↔ Memᴰ s (strains_of a.image))
   every_filing_keeps_the_strains a n e =
       let told : (file_of a.image a.buffer).answer ≡ given n = sym (ap (λ o. o.answer) (meets a)) ∙ ap answer_of e in (
@@ -126,7 +126,7 @@ module _ (program : FilingProgram) (meets : MeetsFile program) where
       )
 
   -- none copies its input
-  pub no_filing_copies : ((a : FileAsked) (n : ℕ) → (program a).answer ≡ Answered.Length n → take n (program a).buffer ≡ a.image) → ⊥
+  pub no_filing_copies : ((a : FileAsked) (n : ℕ) → (program a).answer ≡ Ok n → take n (program a).buffer ≡ a.image) → ⊥
   unfolding example_with reversed
   no_filing_copies bad =
       let e = bad eleventh 56 at_eleventh.0 in
@@ -134,7 +134,7 @@ module _ (program : FilingProgram) (meets : MeetsFile program) where
 
   -- none gives one constant image, nor one for each length
   pub no_filing_is_constant : (form : (size : ℕ) → List ℕ)
-      → ((a : FileAsked) (n : ℕ) → (program a).answer ≡ Answered.Length n → take n (program a).buffer ≡ form (length a.image)) → ⊥
+      → ((a : FileAsked) (n : ℕ) → (program a).answer ≡ Ok n → take n (program a).buffer ≡ form (length a.image)) → ⊥
   unfolding example_with reversed renamed
   no_filing_is_constant form bad =
       let first = bad eleventh 56 at_eleventh.0 in

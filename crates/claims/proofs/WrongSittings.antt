@@ -1,4 +1,5 @@
 -- Sittings that document 01 has shut out: whatever else a program of such a kind does, it does not meet the contract. Assumes nothing.
+use Rattle.std.specs.Prelude.{Ok}
 use mathlib.Core.Path.{◌≡◌, refl, sym, ◌∙◌, ap}
 use mathlib.Core.Logic.{◌≢◌, ◌⊎◌, ⊎_elim}
 use mathlib.Core.List.{List, [], ◌∷◌}
@@ -14,8 +15,9 @@ use Rattle.image.specs.Fields.{count_of, profile_at}
 use Rattle.image.specs.Strains.{each, strains_of}
 use Rattle.content.specs.Bytes.{Bytes}
 use Rattle.walk.specs.Weighed.{weighed}
-use Rattle.search.specs.declared.Served.{Served}
-use Rattle.search.specs.Answer.{sitting_answer, handed}
+use Rattle.search.specs.Answer.{Served}
+use Rattle.search.specs.Answer.{handed}
+use Rattle.image.specs.Answer.{answer_of}
 use Rattle.search.specs.Calls.{code_in, distance_in, sitting_of}
 use Rattle.search.specs.Ranked.{ranked, nearest, plates_in, plate_at, places, rows}
 use Rattle.search.proofs.Answers.{one_answer}
@@ -86,12 +88,12 @@ sittings = (
 -- ---- what no program does that meets the contract
 
 abbrev Back : SearchBack Served → (filled : ℕ) (codes distances : List ℕ) → Type 0
-Back back filled codes distances = (back.answer ≡ Served.Filled filled) × (back.codes ≡ codes) × (back.distances ≡ distances)
+Back back filled codes distances = (back.answer ≡ Ok filled) × (back.codes ≡ codes) × (back.distances ≡ distances)
 
 hands_back : (program : SittingProgram) → ServesSitting program → (a : SittingAsked) {n : ℕ} {codes distances : List ℕ}
     → sitting_for a ≡ handed (given n) codes distances → Back (program a) n codes distances
 hands_back program serves a {n} e =
-    one_answer a.image a.plates a.k a.codes a.distances {s = Served.Filled n} (serves a n (ap (λ o. o.answer) e)) (sym e)
+    one_answer a.image a.plates a.k a.codes a.distances {s = Ok n} (serves a n (ap (λ o. o.answer) e)) (sym e)
 
 module _ (program : SittingProgram) (meets : MeetsSitting program) where
   at_seven_zero : Back (program seven_zero) 1 (103 ∷ 101 ∷ []) (3 ∷ 0 ∷ [])
@@ -107,11 +109,11 @@ module _ (program : SittingProgram) (meets : MeetsSitting program) where
   at_two_of_seven = hands_back program (λ a n e. meets a) two_of_seven sittings.3
 
   -- it does not refuse all
-  pub no_sitting_refuses_all : ((a : SittingAsked) (n : ℕ) → (program a).answer ≢ Served.Filled n) → ⊥
+  pub no_sitting_refuses_all : ((a : SittingAsked) (n : ℕ) → (program a).answer ≢ Ok n) → ⊥
   no_sitting_refuses_all bad = bad seven_zero 1 at_seven_zero.0
 
   -- it does not give one fixed list, nor lists that all begin with one code
-  pub no_sitting_gives_one_list : (code : ℕ) → ((a : SittingAsked) (n : ℕ) → (program a).answer ≡ Served.Filled n → get_or (program a).codes 0 0 ≡ code) → ⊥
+  pub no_sitting_gives_one_list : (code : ℕ) → ((a : SittingAsked) (n : ℕ) → (program a).answer ≡ Ok n → get_or (program a).codes 0 0 ≡ code) → ⊥
   no_sitting_gives_one_list code bad = omega (
     arith,
     bad seven_zero 1 at_seven_zero.0,
@@ -122,7 +124,7 @@ module _ (program : SittingProgram) (meets : MeetsSitting program) where
 
   -- it does not write nothing, nor leave one of the slices as it was
   pub no_sitting_writes_nothing :
-      ((a : SittingAsked) (n : ℕ) → (program a).answer ≡ Served.Filled n → ((program a).codes ≡ a.codes) ⊎ ((program a).distances ≡ a.distances)) → ⊥
+      ((a : SittingAsked) (n : ℕ) → (program a).answer ≡ Ok n → ((program a).codes ≡ a.codes) ⊎ ((program a).distances ≡ a.distances)) → ⊥
   no_sitting_writes_nothing bad =
       ⊎_elim (λ e. absurd (omega (arith, ap (λ (cs : List ℕ). get_or cs 0 0) (sym at_seven_zero.1 ∙ e))))
       (λ e. absurd (omega (arith, ap (λ (ds : List ℕ). get_or ds 0 0) (sym at_seven_zero.2 ∙ e))))
@@ -133,18 +135,18 @@ module _ (program : SittingProgram) (meets : MeetsSitting program) where
   places_of a j lent = take a.k (drop (j * a.k) lent)
 
   -- every plate has its own k nearest, whatever the others are
-  pub every_plate_is_served : (a : SittingAsked) (n j : ℕ) → (program a).answer ≡ Served.Filled n → j < plates_in a.image a.plates
+  pub every_plate_is_served : (a : SittingAsked) (n j : ℕ) → (program a).answer ≡ Ok n → j < plates_in a.image a.plates
       → let found = nearest a.image a.k (plate_at a.image a.plates j) in
       (places_of a j (program a).codes ≡ places a.k code_in found) × (places_of a j (program a).distances ≡ places a.k distance_in found)
   every_plate_is_served a n j e h =
-      let told : (sitting_for a).answer ≡ given n = sym (ap (λ o. o.answer) (meets a)) ∙ ap sitting_answer e in (
+      let told : (sitting_for a).answer ≡ given n = sym (ap (λ o. o.answer) (meets a)) ∙ ap answer_of e in (
         ap (λ o. places_of a j o.codes) (meets a) ∙ plate_alone a.image a.plates a.k a.codes a.distances n told j h,
         ap (λ o. places_of a j o.distances) (meets a) ∙ plate_alone_distances a.image a.plates a.k a.codes a.distances n told j h,
       )
 
   -- so it does not serve plate 0 alone, and give each of the others the places of plate 0, or zeros, or leave its places as they were lent
   pub no_sitting_serves_plate_0_only :
-      ((a : SittingAsked) (n j : ℕ) → (program a).answer ≡ Served.Filled n → 0 < j → j < plates_in a.image a.plates
+      ((a : SittingAsked) (n j : ℕ) → (program a).answer ≡ Ok n → 0 < j → j < plates_in a.image a.plates
       → (places_of a j (program a).codes ≡ places_of a 0 (program a).codes)
       ⊎ ((places_of a j (program a).codes ≡ replicate a.k 0) ⊎ (places_of a j (program a).codes ≡ places_of a j a.codes)))
       → ⊥
@@ -158,7 +160,7 @@ module _ (program : SittingProgram) (meets : MeetsSitting program) where
   -- nor fill in plate j in any way from all that it sees but the values of the other plates: the library, k, how many plates there are, plate 0,
   -- j, and what was lent
   pub no_sitting_fills_in_others : (fill : (image : List ℕ) (k many : ℕ) (plate : List ℤ) (j : ℕ) (codes distances : List ℕ) → List ℕ)
-      → ((a : SittingAsked) (n j : ℕ) → (program a).answer ≡ Served.Filled n → 0 < j → j < plates_in a.image a.plates
+      → ((a : SittingAsked) (n j : ℕ) → (program a).answer ≡ Ok n → 0 < j → j < plates_in a.image a.plates
       → places_of a j (program a).codes
       ≡ fill a.image a.k (plates_in a.image a.plates) (plate_at a.image a.plates 0) j a.codes a.distances)
       → ⊥
@@ -169,14 +171,14 @@ module _ (program : SittingProgram) (meets : MeetsSitting program) where
       omega (arith, ap (λ (cs : List ℕ). get_or cs 0 0) ((rw at_seven_zero.1 at zero) ∙ sym (rw at_seven_seven.1 at seven)))
 
   -- it does not invent the count: that is the lower of k and the number of strains
-  pub no_filled_count_is_invented : (a : SittingAsked) (n : ℕ) → (program a).answer ≡ Served.Filled n → n ≡ min a.k (count_of a.image)
+  pub no_filled_count_is_invented : (a : SittingAsked) (n : ℕ) → (program a).answer ≡ Ok n → n ≡ min a.k (count_of a.image)
   unfolding sitting_of
   no_filled_count_is_invented a n e =
-      let q = sym (ap (λ o. o.answer) (meets a)) ∙ ap sitting_answer e in
+      let q = sym (ap (λ o. o.answer) (meets a)) ∙ ap answer_of e in
       let told = sym (ap (λ o. o.answer) (granted _ _ a.codes a.distances n q).1) ∙ q in cc
 
   -- so it is not one number
-  pub no_filled_count_is_constant : (count : ℕ) → ((a : SittingAsked) (n : ℕ) → (program a).answer ≡ Served.Filled n → n ≡ count) → ⊥
+  pub no_filled_count_is_constant : (count : ℕ) → ((a : SittingAsked) (n : ℕ) → (program a).answer ≡ Ok n → n ≡ count) → ⊥
   no_filled_count_is_constant count bad = omega (arith, bad seven_zero 1 at_seven_zero.0, bad two_of_seven 2 at_two_of_seven.0)
 
 -- ---- no function that ignores what it searches, what it searches for, or how many it is asked for, serves, though it sees all lengths

@@ -1,5 +1,6 @@
 -- Searches within a radius that document 01 has shut out: whatever else a program of such a kind does, it does not meet the contract.
 -- Assumes nothing.
+use Rattle.search.specs.Answer.{counted}
 use mathlib.Core.Path.{◌≡◌, refl, sym, ◌∙◌, ap}
 use mathlib.Core.Logic.{◌≢◌, ◌⊎◌, ⊎_elim}
 use mathlib.Core.List.{List, [], ◌∷◌}
@@ -18,8 +19,10 @@ use Rattle.content.specs.Bytes.{Bytes}
 use Rattle.walk.specs.Walk.{opens}
 use Rattle.walk.specs.Weighed.{weighed, found_at, reach_at}
 use Rattle.walk.specs.Measured.{measured_in, is_measured, measured_from, measured_count}
-use Rattle.search.specs.declared.Gathered.{Gathered}
-use Rattle.search.specs.Answer.{Counts, within_answer, handed}
+use Rattle.search.specs.Answer.{Gathered}
+use Rattle.search.specs.Answer.{handed}
+use Rattle.image.specs.Answer.{answer_of}
+use Rattle.search.specs.declared.Tally.{Tally}
 use Rattle.search.specs.Calls.{within_of}
 use Rattle.search.specs.Ranked.{ranked, inside, within_radius}
 use Rattle.search.proofs.Answers.{one_answer_within}
@@ -61,7 +64,7 @@ none_of_low = asked example example_bytes (negsuc 39 ∷ [])
 abbrev four_of_zero : (image : List ℕ) → Slice Bytes image → WithinAsked
 four_of_zero image b = asked image b (pos 0 ∷ []) (one_plate 0 (omega arith)) 4 (omega arith)
 
-abbrev counts : (strains measured : ℕ) → Counts
+abbrev counts : (strains measured : ℕ) → Tally
 counts strains measured = record { strains = strains; measured = measured }
 
 -- on the definitions
@@ -83,12 +86,12 @@ searches = (
 -- ---- what no program does that meets the contract
 
 abbrev Back : SearchBack Gathered → (strains measured : ℕ) (codes distances : List ℕ) → Type 0
-Back back strains measured codes distances = (back.answer ≡ Gathered.Inside strains measured) × (back.codes ≡ codes) × (back.distances ≡ distances)
+Back back strains measured codes distances = (back.answer ≡ counted strains measured) × (back.codes ≡ codes) × (back.distances ≡ distances)
 
 hands_back : (program : WithinProgram) → ServesWithin program → (a : WithinAsked) {n m : ℕ} {codes distances : List ℕ}
     → within_for a ≡ handed (given (counts n m)) codes distances → Back (program a) n m codes distances
 hands_back program serves a {n} {m} e =
-    one_answer_within a.image a.plate a.radius a.codes a.distances {s = Gathered.Inside n m}
+    one_answer_within a.image a.plate a.radius a.codes a.distances {s = counted n m}
     (serves a (counts n m) (ap (λ o. o.answer) e)) (sym e)
 
 module _ (program : WithinProgram) (meets : MeetsWithin program) where
@@ -102,12 +105,12 @@ module _ (program : WithinProgram) (meets : MeetsWithin program) where
   at_four_of_zero = hands_back program (λ a c e. meets a) (four_of_zero example example_bytes) searches.3
 
   -- it does not refuse all
-  pub no_within_refuses_all : ((a : WithinAsked) (n m : ℕ) → (program a).answer ≢ Gathered.Inside n m) → ⊥
+  pub no_within_refuses_all : ((a : WithinAsked) (n m : ℕ) → (program a).answer ≢ counted n m) → ⊥
   no_within_refuses_all bad = bad four_of_seven 3 4 at_four_of_seven.0
 
   -- it does not give one fixed list, nor lists that all begin with one code where they hold a strain
   pub no_within_gives_one_list : (code : ℕ)
-      → ((a : WithinAsked) (n m : ℕ) → (program a).answer ≡ Gathered.Inside (suc n) m → get_or (program a).codes 0 0 ≡ code) → ⊥
+      → ((a : WithinAsked) (n m : ℕ) → (program a).answer ≡ counted (suc n) m → get_or (program a).codes 0 0 ≡ code) → ⊥
   no_within_gives_one_list code bad = omega (
     arith,
     bad four_of_seven 2 4 at_four_of_seven.0,
@@ -118,29 +121,29 @@ module _ (program : WithinProgram) (meets : MeetsWithin program) where
 
   -- it does not write nothing, nor leave one of the slices as it was
   pub no_within_writes_nothing :
-      ((a : WithinAsked) (n m : ℕ) → (program a).answer ≡ Gathered.Inside n m → ((program a).codes ≡ a.codes) ⊎ ((program a).distances ≡ a.distances)) → ⊥
+      ((a : WithinAsked) (n m : ℕ) → (program a).answer ≡ counted n m → ((program a).codes ≡ a.codes) ⊎ ((program a).distances ≡ a.distances)) → ⊥
   no_within_writes_nothing bad =
       ⊎_elim (λ e. absurd (omega (arith, ap (λ (cs : List ℕ). get_or cs 0 0) (sym at_four_of_seven.1 ∙ e))))
       (λ e. absurd (omega (arith, ap (λ (ds : List ℕ). get_or ds 0 0) (sym at_four_of_seven.2 ∙ e))))
       (bad four_of_seven 3 4 at_four_of_seven.0)
 
   -- it invents neither count: they are how many strains lie within the radius, and how many profiles document 01 has measured
-  told : (a : WithinAsked) (n m : ℕ) → (program a).answer ≡ Gathered.Inside n m
+  told : (a : WithinAsked) (n m : ℕ) → (program a).answer ≡ counted n m
       → counts n m ≡ counts (length (within_radius a.image a.radius a.plate)) (measured_count a.image a.radius a.plate)
   unfolding within_of
-  told a n m e = let q = sym (ap (λ o. o.answer) (meets a)) ∙ ap within_answer e in let t = sym (ap (λ o. o.answer) (granted _ _ a.codes a.distances (counts n m) q).1) ∙ q in cc
+  told a n m e = let q = sym (ap (λ o. o.answer) (meets a)) ∙ ap answer_of e in let t = sym (ap (λ o. o.answer) (granted _ _ a.codes a.distances (counts n m) q).1) ∙ q in cc
 
-  pub no_strain_count_is_invented : (a : WithinAsked) (n m : ℕ) → (program a).answer ≡ Gathered.Inside n m → n ≡ length (within_radius a.image a.radius a.plate)
+  pub no_strain_count_is_invented : (a : WithinAsked) (n m : ℕ) → (program a).answer ≡ counted n m → n ≡ length (within_radius a.image a.radius a.plate)
   no_strain_count_is_invented a n m e = ap (λ c. c.strains) (told a n m e)
 
-  pub no_measured_count_is_invented : (a : WithinAsked) (n m : ℕ) → (program a).answer ≡ Gathered.Inside n m → m ≡ measured_count a.image a.radius a.plate
+  pub no_measured_count_is_invented : (a : WithinAsked) (n m : ℕ) → (program a).answer ≡ counted n m → m ≡ measured_count a.image a.radius a.plate
   no_measured_count_is_invented a n m e = ap (λ c. c.measured) (told a n m e)
 
   -- so neither is one number
-  pub no_strain_count_is_constant : (count : ℕ) → ((a : WithinAsked) (n m : ℕ) → (program a).answer ≡ Gathered.Inside n m → n ≡ count) → ⊥
+  pub no_strain_count_is_constant : (count : ℕ) → ((a : WithinAsked) (n m : ℕ) → (program a).answer ≡ counted n m → n ≡ count) → ⊥
   no_strain_count_is_constant count bad = omega (arith, bad four_of_seven 3 4 at_four_of_seven.0, bad none_of_low 0 1 at_none_of_low.0)
 
-  pub no_measured_count_is_constant : (count : ℕ) → ((a : WithinAsked) (n m : ℕ) → (program a).answer ≡ Gathered.Inside n m → m ≡ count) → ⊥
+  pub no_measured_count_is_constant : (count : ℕ) → ((a : WithinAsked) (n m : ℕ) → (program a).answer ≡ counted n m → m ≡ count) → ⊥
   no_measured_count_is_constant count bad = omega (arith, bad four_of_seven 3 4 at_four_of_seven.0, bad none_of_low 0 1 at_none_of_low.0)
 
 -- ---- no function that ignores what it searches, what it searches for, or how far, serves, though it sees all lengths

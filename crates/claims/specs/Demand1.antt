@@ -7,16 +7,16 @@ use Rattle.image.specs.declared.refusal.Place.{Place}
 use Rattle.image.specs.Verdict.{Verdict, accepted, refused}
 use Rattle.image.specs.Faults.{Line, FirstFault, NoFault}
 use Rattle.image.specs.Answer.{Answer, given, denied, answer_of}
-use Rattle.checker.specs.declared.Checked.{Checked}
+use Rattle.checker.specs.Check.{Checked}
 use Rattle.checker.specs.Check as check
 use Rattle.checker.specs.Table.{table}
 use Rattle.content.specs.Bytes.{Bytes}
-use Rattle.image.specs.declared.refusal.Answered.{Answered}
+use Rattle.image.specs.Answer.{Answered}
 use Rattle.build.specs.Calls.{start_of, add_of, file_of, StartGives, AddGives, FileGives}
 use Rattle.build.specs.Table.{start_table, add_table, file_table}
-use Rattle.search.specs.declared.Served.{Served}
-use Rattle.search.specs.declared.Gathered.{Gathered}
-use Rattle.search.specs.Answer.{sitting_answer, within_answer}
+use Rattle.search.specs.Answer.{Served}
+use Rattle.search.specs.Answer.{Gathered}
+use Rattle.image.specs.Answer.{verdict_of}
 use Rattle.search.specs.Calls.{sitting_of, within_of, SittingGives, WithinGives}
 use Rattle.search.specs.Table.{sitting_table, within_table}
 use Rattle.text.specs.Calls as text
@@ -57,7 +57,7 @@ pub record NumberBy (lines : List Line) (number : ℕ) (Unchanged : Type 0) : Ty
 -- ---- the demand, call by call: each line of it is about the contract that the call's code is proved to meet
 
 pub record Calls1 : Type 1 where
-  pub check : (image : List ℕ) (r : Checked) → check.CheckGives image r → VerdictBy (table image) (check.answer_of r)
+  pub check : (image : List ℕ) (r : Checked) → check.CheckGives image r → VerdictBy (table image) (verdict_of r)
   pub start : (wells metric code : ℕ) (profile : List ℤ) (buffer : List ℕ) (r : Answered) (buffer' : List ℕ)
       → StartGives wells metric code profile buffer r buffer'
       → AnswerBy (start_table wells metric code profile (length buffer)) (answer_of r) (buffer' ≡ buffer)
@@ -69,10 +69,10 @@ pub record Calls1 : Type 1 where
       → AnswerBy (file_table image (length buffer)) (answer_of r) (buffer' ≡ buffer)
   pub sitting : (image : List ℕ) (plates : List ℤ) (k : ℕ) (codes distances : List ℕ) (r : Served) (codes' distances' : List ℕ)
       → SittingGives image plates k codes distances r codes' distances'
-      → AnswerBy (sitting_table image (length plates) k (length codes) (length distances)) (sitting_answer r) ((codes' ≡ codes) × (distances' ≡ distances))
+      → AnswerBy (sitting_table image (length plates) k (length codes) (length distances)) (answer_of r) ((codes' ≡ codes) × (distances' ≡ distances))
   pub within : (image : List ℕ) (plate : List ℤ) (radius : ℕ) (codes distances : List ℕ) (r : Gathered) (codes' distances' : List ℕ)
       → WithinGives image plate radius codes distances r codes' distances'
-      → AnswerBy (within_table image (length plate) (length codes) (length distances)) (within_answer r) ((codes' ≡ codes) × (distances' ≡ distances))
+      → AnswerBy (within_table image (length plate) (length codes) (length distances)) (answer_of r) ((codes' ≡ codes) × (distances' ≡ distances))
   pub short : (image plate out : List ℕ) (number : ℕ) (out' : List ℕ)
       → ShortGives image plate out number out'
       → NumberBy (short_table image (length plate) (length out)) number (out' ≡ out)

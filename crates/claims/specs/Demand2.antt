@@ -1,5 +1,7 @@
 -- Demand 2: what is accepted, what the searches give, and what an addition leaves. Said of the contracts that the calls' code is proved to meet, in the
 -- words of document 01: neither a sort nor a rank is named here, and a walk only in the signed sentence. Assumes nothing.
+use Rattle.std.specs.Prelude.{Ok}
+use Rattle.search.specs.Answer.{counted}
 use Rattle.std.specs.Prelude.{◌≡◌, ◌↔◌, ◌⊎◌, ℕ, ◌+◌, ◌*◌, ◌%◌, ◌≤◌, ◌<◌, min, ℤ, length, take, drop}
 use mathlib.Core.List.{List, [], ◌∷◌, ◌++◌, map, Memᴰ}
 use Rattle.profile.specs.Distance.{Wells, distance}
@@ -12,16 +14,15 @@ use Rattle.tree.specs.Grow.{CanTake, NearestTaker, Grown}
 use Rattle.image.specs.Fields.{wells_of, metric_of, count_of, root_of, code_at, parent_at, level_at, profile_at, distance_at}
 use Rattle.image.specs.Strains.{Strain, strains_of, strain_of}
 use Rattle.image.specs.Library.{Layout, tree_of, Library}
-use Rattle.checker.specs.declared.Checked.{Checked}
+use Rattle.checker.specs.Check.{Checked}
 use Rattle.checker.specs.Check.{CheckGives}
 use Rattle.content.specs.Bytes.{Bytes}
 use Rattle.content.specs.Content.{content_of}
 use Rattle.content.specs.Adding.{started}
 use Rattle.walk.specs.Weighed.{weighed}
-use Rattle.image.specs.declared.refusal.Answered.{Answered}
 use Rattle.build.specs.Calls.{StartGives, AddGives}
-use Rattle.search.specs.declared.Served.{Served}
-use Rattle.search.specs.declared.Gathered.{Gathered}
+use Rattle.search.specs.Answer.{Served}
+use Rattle.search.specs.Answer.{Gathered}
 use Rattle.search.specs.Ranked.{plates_in, plate_at, places}
 use Rattle.search.specs.Calls.{code_in, distance_in, SittingGives, WithinGives}
 use Rattle.search.specs.Weighing.{EveryStrainWeighed}
@@ -30,7 +31,7 @@ use Rattle.search.specs.Weighing.{EveryStrainWeighed}
 
 pub record Acceptance : Type 0 where
   -- accepted exactly when its layout and the root, cover and separation conditions of the published definition hold
-  pub exactly : (image : List ℕ) {r : Checked} → CheckGives image r → (r ≡ Checked.Accepted) ↔ Library image
+  pub exactly : (image : List ℕ) {r : Checked} → CheckGives image r → (r ≡ (Ok tt)) ↔ Library image
   -- of these conditions the root's follows from cover, and separation is what document 01 says of pairs
   pub conditions : (image : List ℕ) → Layout image
       → CoverTree (distance (metric_of image)) (count_of image) (tree_of image)
@@ -104,20 +105,20 @@ pub record SittingFits (image : List ℕ) (plates : List ℤ) (k : ℕ) (codes d
 pub record Searching : Type 0 where
   -- for every accepted library a sitting is served
   pub served : (image : List ℕ) (plates : List ℤ) (k : ℕ) (codes distances : List ℕ) (r : Served) (codes' distances' : List ℕ) → Library image
-      → SittingFits image plates k codes distances → SittingGives image plates k codes distances r codes' distances' → r ≡ Served.Filled (min k (count_of image))
+      → SittingFits image plates k codes distances → SittingGives image plates k codes distances r codes' distances' → r ≡ Ok (min k (count_of image))
   -- and then each plate gets its true nearest strains by distance and then code
   pub nearest : (image : List ℕ) (plates : List ℤ) (k : ℕ) (codes distances : List ℕ) (filled : ℕ) (codes' distances' : List ℕ) → Bytes image
-      → SittingGives image plates k codes distances (Served.Filled filled) codes' distances' → SittingHas image plates k codes distances filled codes' distances'
+      → SittingGives image plates k codes distances (Ok filled) codes' distances' → SittingHas image plates k codes distances filled codes' distances'
   -- these words leave one list only
   pub nearest_one : (image : List ℕ) → Bytes image → Library image → (k : ℕ) (plate : List ℤ) (fs gs : List Found)
       → NearestStrains image k plate fs → NearestStrains image k plate gs → fs ≡ gs
   -- for every accepted library a search within a radius is made
   pub gathered : (image : List ℕ) (plate : List ℤ) (radius : ℕ) (codes distances : List ℕ) (r : Gathered) (codes' distances' : List ℕ) → Library image
       → length plate ≡ wells_of image → count_of image ≤ length codes → count_of image ≤ length distances
-      → WithinGives image plate radius codes distances r codes' distances' → (n : ℕ) × (m : ℕ) × (r ≡ Gathered.Inside n m)
+      → WithinGives image plate radius codes distances r codes' distances' → (n : ℕ) × (m : ℕ) × (r ≡ counted n m)
   -- and then it lists exactly the strains inside the radius
   pub within : (image : List ℕ) (plate : List ℤ) (radius : ℕ) (codes distances : List ℕ) (many measured : ℕ) (codes' distances' : List ℕ) → Bytes image
-      → WithinGives image plate radius codes distances (Gathered.Inside many measured) codes' distances'
+      → WithinGives image plate radius codes distances (counted many measured) codes' distances'
       → WithinHas image plate radius codes distances many measured codes' distances'
   -- these words too leave one list only
   pub within_one : (image : List ℕ) → Bytes image → Library image → (radius : ℕ) (plate : List ℤ) (fs gs : List Found)
@@ -145,11 +146,11 @@ pub record AddedTo (old new : List ℕ) (code : ℕ) (profile : List ℤ) : Type
 pub record Adding : Type 0 where
   -- a start that is not refused leaves an accepted library with the one strain, a lone root at level 0
   pub starts : (wells metric code : ℕ) (profile : List ℤ) (buffer : List ℕ) (n : ℕ) (buffer' : List ℕ) → code < 4294967296 → Wells profile
-      → StartGives wells metric code profile buffer (Answered.Length n) buffer'
+      → StartGives wells metric code profile buffer (Ok n) buffer'
       → Library (take n buffer') × (content_of (take n buffer') ≡ started wells metric (strain_of code profile)) × (drop n buffer' ≡ drop n buffer)
   -- an addition that is not refused leaves an accepted library with the old strains and the new one, unaltered
   pub added : (buffer : List ℕ) (stated code : ℕ) (profile : List ℤ) (n : ℕ) (buffer' : List ℕ) → Bytes buffer → code < 4294967296 → Wells profile
-      → AddGives buffer stated code profile (Answered.Length n) buffer' → AddedTo (take stated buffer) (take n buffer') code profile × (drop n buffer' ≡ drop n buffer)
+      → AddGives buffer stated code profile (Ok n) buffer' → AddedTo (take stated buffer) (take n buffer') code profile × (drop n buffer' ≡ drop n buffer)
 
 pub record Demand2 : Type 0 where
   pub acceptance : Acceptance

@@ -1,13 +1,15 @@
 -- Demand 3: the filing form. Said of the contracts that the calls' code is proved to meet. `Bytes` is what the type of an image says. Assumes nothing.
+use Rattle.std.specs.Prelude.{Ok}
 use Rattle.std.specs.Prelude.{◌≡◌, ◌↔◌, List, ◌++◌, ℕ, ◌≤◌, ℤ, length, drop}
 use Rattle.image.specs.Library.{Library}
 use Rattle.content.specs.Bytes.{Bytes}
 use Rattle.content.specs.Filing.{filing_form, Agree}
-use Rattle.image.specs.declared.refusal.Answered.{Answered}
+use Rattle.image.specs.Answer.{Answered}
 use Rattle.build.specs.Calls.{FileGives}
-use Rattle.search.specs.declared.Served.{Served}
-use Rattle.search.specs.declared.Gathered.{Gathered}
-use Rattle.search.specs.Answer.{within_answer, strains_in}
+use Rattle.search.specs.Answer.{Served}
+use Rattle.search.specs.Answer.{Gathered}
+use Rattle.search.specs.Answer.{strains_in}
+use Rattle.image.specs.Answer.{answer_of}
 use Rattle.search.specs.Calls.{SittingGives, WithinGives}
 use Rattle.short.specs.Short.{ShortGives}
 
@@ -15,9 +17,9 @@ pub record Demand3 : Type 0 where
   -- every accepted library has a filing form, and filing gives it, where there is room for it: as long as the library, in front of the buffer, with
   -- the rest of the buffer as it was
   pub given : (image buffer : List ℕ) {r : Answered} {buffer' : List ℕ} → Bytes image → Library image → length image ≤ length buffer → FileGives image buffer r buffer'
-      → (r ≡ Answered.Length (length image)) × (buffer' ≡ filing_form image ++ drop (length image) buffer)
+      → (r ≡ Ok (length image)) × (buffer' ≡ filing_form image ++ drop (length image) buffer)
   -- nothing else is filed
-  pub only : (image buffer : List ℕ) {n : ℕ} {buffer' : List ℕ} → FileGives image buffer (Answered.Length n) buffer' → Library image × (length image ≤ length buffer)
+  pub only : (image buffer : List ℕ) {n : ℕ} {buffer' : List ℕ} → FileGives image buffer (Ok n) buffer' → Library image × (length image ≤ length buffer)
   -- it is itself accepted, and as long
   pub accepted : (image : List ℕ) → Bytes image → Library image → Library (filing_form image) × (length (filing_form image) ≡ length image)
   -- two libraries have equal filing forms, byte for byte, exactly when they agree in wells, metric and set of strains
@@ -31,6 +33,6 @@ pub record Demand3 : Type 0 where
       → (r ≡ s) × (c ≡ c') × (d ≡ d')
   pub within : (image : List ℕ) → Bytes image → Library image → (plate : List ℤ) (radius : ℕ) (codes distances : List ℕ) (r s : Gathered) {c c' d d' : List ℕ}
       → WithinGives image plate radius codes distances r c d → WithinGives (filing_form image) plate radius codes distances s c' d'
-      → (strains_in (within_answer r) ≡ strains_in (within_answer s)) × (c ≡ c') × (d ≡ d')
+      → (strains_in (answer_of r) ≡ strains_in (answer_of s)) × (c ≡ c') × (d ≡ d')
   pub short : (image : List ℕ) → Bytes image → Library image → (plate out : List ℕ) {m n : ℕ} {b c : List ℕ}
       → ShortGives image plate out m b → ShortGives (filing_form image) plate out n c → (m ≡ n) × (b ≡ c)

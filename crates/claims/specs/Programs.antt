@@ -4,14 +4,15 @@ use Rattle.std.specs.Prelude.{◌≡◌, List, ℕ, ◌<◌, ℤ, length, get_or
 use Rattle.profile.specs.Distance.{Wells}
 use Rattle.image.specs.Answer as image
 use Rattle.image.specs.Answer.{given}
-use Rattle.checker.specs.declared.Checked.{Checked}
+use Rattle.checker.specs.Check.{Checked}
 use Rattle.checker.specs.Check.{CheckGives}
 use Rattle.content.specs.Bytes.{Bytes}
-use Rattle.search.specs.Answer.{Outcome, Counts}
-use Rattle.search.specs.declared.Served.{Served}
-use Rattle.search.specs.declared.Gathered.{Gathered}
+use Rattle.search.specs.Answer.{Outcome}
+use Rattle.search.specs.declared.Tally.{Tally}
+use Rattle.search.specs.Answer.{Served}
+use Rattle.search.specs.Answer.{Gathered}
 use Rattle.search.specs.Calls.{sitting_of, SittingGives, within_of, WithinGives}
-use Rattle.image.specs.declared.refusal.Answered.{Answered}
+use Rattle.image.specs.Answer.{Answered}
 use Rattle.build.specs.Calls.{AddGives, FileGives}
 use Rattle.short.specs.Short.{short_of, refusal_number, ShortGives}
 
@@ -94,7 +95,7 @@ pub record WithinAsked : Type 0 where
 abbrev pub WithinProgram : Type 0
 WithinProgram = WithinAsked → SearchBack Gathered
 
-abbrev pub within_for : WithinAsked → Outcome Counts
+abbrev pub within_for : WithinAsked → Outcome Tally
 within_for a = within_of a.image a.plate a.radius a.codes a.distances
 
 abbrev pub MeetsWithinAt : WithinAsked → SearchBack Gathered → Type 0
@@ -104,7 +105,7 @@ abbrev pub MeetsWithin : WithinProgram → Type 0
 MeetsWithin program = (a : WithinAsked) → MeetsWithinAt a (program a)
 
 abbrev pub ServesWithin : WithinProgram → Type 0
-ServesWithin program = (a : WithinAsked) (counts : Counts) → (within_for a).answer ≡ given counts → MeetsWithinAt a (program a)
+ServesWithin program = (a : WithinAsked) (counts : Tally) → (within_for a).answer ≡ given counts → MeetsWithinAt a (program a)
 
 -- ---- the short call
 

@@ -1,13 +1,29 @@
 -- What a door hands back, from what the call behind it handed back, and that its contract leaves nothing open. Assumes nothing.
-use mathlib.Core.Path.{◌≡◌, sym, ◌∙◌, ap}
+use mathlib.Core.Path.{◌≡◌, refl, sym, ◌∙◌, ap}
 use mathlib.Core.List.{List}
 use Prim.Native.Nat.{ℕ}
-use Rattle.image.specs.Answer.{Answer, Outcome, answer_of, handed}
-use Rattle.checker.specs.Check.{check_of}
-use Rattle.image.specs.declared.refusal.Answered.{Answered}
+use Rattle.image.specs.Answer.{Answer, Outcome, answer_of, verdict_of, handed}
+use Rattle.checker.specs.Check.{Checked, check_of}
+use Rattle.image.specs.Answer.{Answered}
 use Rattle.search.specs.Answer as search
-use Rattle.host.specs.Word.{verdict_word, answer_word}
+use Rattle.std.specs.Prelude.{Result, Ok, Err, IfOk, IfErr, IsOkAnd, MatchResult}
+use Rattle.image.specs.declared.refusal.Refusal.{Refusal}
+use Rattle.image.specs.Refusals.{number_of, place_of}
+use Rattle.host.specs.Word.{verdict_word, refused_word, answer_word}
 use Rattle.host.specs.Doors.{Wrote, Searched}
+
+-- the word of an answer: of what is told as `Post` says, or of a refusal
+module _ {Told : Type 0} (told : Told → ℕ) {Post : Told → ℕ → Type 0} (says : (x : Told) (y : ℕ) → Post x y → y ≡ told x) where
+  pub worded : (r : Result Told Refusal) (mapped : Result ℕ Refusal) {word : ℕ} → MatchResult r (λ x. IsOkAnd mapped (Post x)) (λ e. mapped ≡ Err e)
+      → IfOk mapped (λ y. word ≡ y) → IfErr mapped (λ refusal. word ≡ refused_word (number_of refusal) (place_of refusal)) → word ≡ answer_word told (answer_of r)
+  worded (Ok x) (Ok y) p g d = g ∙ says x y p
+  worded (Ok x) (Err refusal) p g d = absurd p
+  worded (Err refusal) mapped p g d = rw p at d
+
+-- the check tells nothing but its verdict
+pub verdict_told : (r : Checked) → answer_word (λ t. 0) (answer_of r) ≡ verdict_word (verdict_of r)
+verdict_told (Ok t) = refl
+verdict_told (Err refusal) = refl
 
 pub wrote : (told : ℕ → ℕ) (r : Answered) (buffer : List ℕ) (o : Outcome) {word : ℕ} → handed r buffer ≡ o → word ≡ answer_word told (answer_of r)
     → Wrote told o word buffer

@@ -3,7 +3,7 @@
 use mathlib.Core.Path.{◌≡◌, refl}
 use mathlib.Core.Bool.{Bool, true, false, cond}
 use mathlib.Core.List.{List, [], ◌∷◌, ◌++◌}
-use mathlib.Core.Option.{Option, none, some}
+use Rattle.std.specs.Prelude.{Option, Some, None}
 use Prim.Native.Nat.{ℕ, ◌≤◌, ◌<◌}
 use native.Mathlib.Omega.{arith}
 use lib.Dec.{ltb}
@@ -27,8 +27,8 @@ use Rattle.host.proofs.Words.{none_fits, record_fits, pair_fits, PlaceFits, Verd
 
 -- where a rule applies
 data WhereFits : Option Place → Type 0 where
-  nowhere : WhereFits none
-  there : {p : Place} → PlaceFits p → WhereFits (some p)
+  nowhere : WhereFits None
+  there : {p : Place} → PlaceFits p → WhereFits (Some p)
 
 data RulesFit : List Rule → Type 0 where
   end : RulesFit []
@@ -57,7 +57,7 @@ module _ (n : ℕ) (few : n ≤ 65536) where
   unfolding at_first
   first_fits p = by (ltb (first_below n p) n) refl
     where
-      by : (t : Bool) → ltb (first_below n p) n ≡ t → WhereFits (cond t (some (Place.Record (first_below n p))) none)
+      by : (t : Bool) → ltb (first_below n p) n ≡ t → WhereFits (cond t (Some (Place.Record (first_below n p))) None)
       by true e = there (record_fits {i = first_below n p} (omega (arith, ltb-true (first_below n p) n e)))
       by false e = nowhere
 
@@ -66,7 +66,7 @@ module _ (n : ℕ) (few : n ≤ 65536) where
   both_fit p = by (ltb (later_below n p) n) refl
     where
       by : (t : Bool) → ltb (later_below n p) n ≡ t
-          → WhereFits (cond t (some (Place.Pair (first_below (later_below n p) (p (later_below n p))) (later_below n p))) none)
+          → WhereFits (cond t (Some (Place.Pair (first_below (later_below n p) (p (later_below n p))) (later_below n p))) None)
       by true e =
           let later : later_below n p < n = ltb-true _ _ e in
           let earlier : first_below (later_below n p) (p (later_below n p)) ≤ later_below n p = (first_told (later_below n p) (p (later_below n p))).within in

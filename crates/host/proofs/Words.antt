@@ -6,7 +6,7 @@ use Rattle.image.specs.declared.refusal.Place.{Place}
 use Rattle.image.specs.declared.refusal.Place.TheVariants.{None, Record, Pair}
 use Rattle.image.specs.Verdict.{Verdict, accepted, refused}
 use Rattle.image.specs.Answer.{Answer, given, denied}
-use Rattle.search.specs.Answer.{Counts}
+use Rattle.search.specs.declared.Tally.{Tally}
 use Rattle.host.specs.Word.{first, long, counts, refused_word, verdict_word, answer_word}
 use Rattle.host.specs.Reading.{number_part, kind_part, first_part, second_part, place_from, answer_from, verdict_from, answer_in, verdict_in, value_from, long_from, counts_from}
 
@@ -41,7 +41,7 @@ abbrev pub In32 : ℕ → Type 0
 In32 n = n < 4294967296
 
 -- both counts have 16 each
-abbrev pub BothIn16 : Counts → Type 0
+abbrev pub BothIn16 : Tally → Type 0
 BothIn16 c = (c.strains < 65536) × (c.measured < 65536)
 
 -- ---- a word of four parts, taken apart

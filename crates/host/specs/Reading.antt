@@ -4,7 +4,7 @@ use Rattle.image.specs.declared.refusal.Place.{Place}
 use Rattle.image.specs.declared.refusal.Place.TheVariants.{None, Record, Pair}
 use Rattle.image.specs.Verdict.{Verdict, accepted, refused}
 use Rattle.image.specs.Answer.{Answer, given, denied}
-use Rattle.search.specs.Answer.{Counts}
+use Rattle.search.specs.declared.Tally.{Tally}
 
 -- bits 0..7, 8..15, 16..31, 32..47
 abbrev pub number_part : ℕ → ℕ
@@ -48,5 +48,5 @@ value_from first second = first
 abbrev pub long_from : ℕ → ℕ → ℕ
 long_from first second = first + 65536 * second
 
-abbrev pub counts_from : ℕ → ℕ → Counts
+abbrev pub counts_from : ℕ → ℕ → Tally
 counts_from first second = record { strains = first; measured = second }

@@ -6,7 +6,7 @@ use Rattle.image.specs.declared.refusal.Place.{Place}
 use Rattle.image.specs.declared.refusal.Place.TheVariants.{None, Record, Pair}
 use Rattle.image.specs.Verdict.{Verdict, accepted, refused}
 use Rattle.image.specs.Answer.{Answer, given, denied}
-use Rattle.search.specs.Answer.{Counts}
+use Rattle.search.specs.declared.Tally.{Tally}
 
 -- a number of 16 bits from bit 16 on, and from bit 32 on
 abbrev pub first : ℕ → ℕ
@@ -38,5 +38,5 @@ answer_word told (given x) = told x
 answer_word told (denied m p) = refused_word m p
 
 -- of a search within a radius: how many strains, and how many profiles were measured
-abbrev pub counts : Counts → ℕ
+abbrev pub counts : Tally → ℕ
 counts c = first c.strains + second c.measured

@@ -11,46 +11,41 @@ ghost use Rattle.short.specs.Short.{ShortGives};
 ghost use Rattle.host.specs.Word.{first, long, counts, verdict_word};
 ghost use Rattle.host.specs.Doors.{Wrote, Searched};
 
-use checker::Checked;
-
 mod word; // word.rt: the answer word
 
 // The check of a library.
 pub fn kw_check(image: &[u8]) -> u64
     ensures { result ≡ verdict_word (check_of image.now) }
 {
-    match checker::check(image) {
-        Checked::Accepted => 0,
-        Checked::Refused(refusal) => word::refusal(refusal),
-    }
+    word::answer(checker::check(image).map(|()| 0))
 }
 
 // A library started with one strain, in the front of the buffer.
 pub fn kw_start(wells: u32, metric: u32, code: u32, profile: &[i16], buffer: &mut [u8]) -> u64
     ensures { Wrote first (start_of wells metric code profile.now buffer.old) result buffer.new }
 {
-    word::answered(build::start(wells, metric, code, profile, buffer))
+    word::answer(build::start(wells, metric, code, profile, buffer).map(word::first))
 }
 
 // A strain added to the library that is the first `stated` bytes of the buffer.
 pub fn kw_add(buffer: &mut [u8], stated: usize, code: u32, profile: &[i16]) -> u64
     ensures { Wrote first (add_of buffer.old stated code profile.now) result buffer.new }
 {
-    word::answered(build::add(buffer, stated, code, profile))
+    word::answer(build::add(buffer, stated, code, profile).map(word::first))
 }
 
 // A library's filing form, in the front of the buffer.
 pub fn kw_file(image: &[u8], buffer: &mut [u8]) -> u64
     ensures { Wrote first (file_of image.now buffer.old) result buffer.new }
 {
-    word::answered(build::file(image, buffer))
+    word::answer(build::file(image, buffer).map(word::first))
 }
 
 // A library's listing, in the front of the buffer.
 pub fn kw_list(image: &[u8], buffer: &mut [u8]) -> u64
     ensures { Wrote long (list_of image.now buffer.old) result buffer.new }
 {
-    word::listed(text::list(image, buffer))
+    word::answer(text::list(image, buffer).map(word::long))
 }
 
 // The nearest strains of each plate of a sitting.
@@ -63,7 +58,7 @@ pub fn kw_sitting(
 ) -> u64
     ensures { Searched first (sitting_of image.now plates.now neighbours codes.old distances.old) result codes.new distances.new }
 {
-    word::served(search::sitting(image, plates, neighbours, codes, distances))
+    word::answer(search::sitting(image, plates, neighbours, codes, distances).map(word::first))
 }
 
 // The strains within a radius of a plate.
@@ -76,12 +71,15 @@ pub fn kw_within(
 ) -> u64
     ensures { Searched counts (within_of image.now plate.now radius codes.old distances.old) result codes.new distances.new }
 {
-    word::gathered(search::within(image, plate, radius, codes, distances))
+    word::answer(search::within(image, plate, radius, codes, distances).map(word::counts))
 }
 
 // The short call: the five nearest strains of one plate that comes in bytes. The result is 0 or the refusal number.
 pub fn kw_short(image: &[u8], plate: &[u8], out: &mut [u8]) -> u32
     ensures { ShortGives image.now plate.now out.old result out.new }
 {
-    short::short(image, plate, out)
+    match short::short(image, plate, out) {
+        Ok(_) => 0,
+        Err(refusal) => u32::from(refusal.number()),
+    }
 }

@@ -1,14 +1,13 @@
 // The answer word of each call.
-ghost use Rattle.std.specs.Prelude.{◌≡◌, ◌<◌};
+ghost use Rattle.std.specs.Prelude.{◌≡◌, ◌<◌, IfOk, IfErr};
 ghost use Rattle.image.specs.Refusals.{number_of, place_of};
-ghost use Rattle.image.specs.Answer.{answer_of};
-ghost use Rattle.search.specs.Answer.{sitting_answer, within_answer};
-ghost use Rattle.host.specs.Word.{first as word_first, second as word_second, long as word_long, place_word, refused_word, answer_word, counts};
+ghost use Rattle.host.specs.Word.{first as word_first, second as word_second, long as word_long, place_word, refused_word, counts as counts_of};
 
-use image::refusal::{Answered, Place, Refusal};
-use search::{Gathered, Served};
+use image::refusal::{Place, Refusal};
+use search::Tally;
 
-fn first(n: usize) -> u64
+// The longest library takes 40976 bytes, so 16 bits hold its length.
+pub fn first(n: usize) -> u64
     ensures { (result ≡ word_first n) × (result < 4294967296) }
 {
     65536 * (n as u64 % 65536)
@@ -20,7 +19,8 @@ fn second(n: usize) -> u64
     4294967296 * (n as u64 % 65536)
 }
 
-fn long(n: usize) -> u64
+// A listing can take 147456 bytes, so its length needs the bits of both values.
+pub fn long(n: usize) -> u64
     ensures { result ≡ word_long n }
 {
     65536 * (n as u64 % 4294967296)
@@ -39,43 +39,20 @@ fn place(told: Place) -> u64
 pub fn refusal(told: Refusal) -> u64
     ensures { result ≡ refused_word (number_of told) (place_of told) }
 {
-    image::refusal::number(told) as u64 + place(image::refusal::told_at(told))
+    told.number() as u64 + place(told.place())
 }
 
-// The longest library takes 40976 bytes, so 16 bits hold its length.
-pub fn answered(told: Answered) -> u64
-    ensures { result ≡ answer_word word_first (answer_of told) }
+// The word of an answer, whose values are told in a word already.
+pub fn answer(told: Result<u64, Refusal>) -> u64
+    ensures given { IfOk told (λ word. result ≡ word) }
+    ensures denied { IfErr told (λ refusal. result ≡ refused_word (number_of refusal) (place_of refusal)) }
 {
-    match told {
-        Answered::Length(length) => first(length),
-        Answered::Refused(refused) => refusal(refused),
-    }
+    told.unwrap_or_else(refusal)
 }
 
-// A listing can take 147456 bytes, so its length needs the bits of both values.
-pub fn listed(told: Answered) -> u64
-    ensures { result ≡ answer_word word_long (answer_of told) }
+// Of a search within a radius: how many strains, and how many profiles were measured.
+pub fn counts(tally: Tally) -> u64
+    ensures { result ≡ counts_of tally }
 {
-    match told {
-        Answered::Length(length) => long(length),
-        Answered::Refused(refused) => refusal(refused),
-    }
-}
-
-pub fn served(told: Served) -> u64
-    ensures { result ≡ answer_word word_first (sitting_answer told) }
-{
-    match told {
-        Served::Filled(filled) => first(filled),
-        Served::Refused(refused) => refusal(refused),
-    }
-}
-
-pub fn gathered(told: Gathered) -> u64
-    ensures { result ≡ answer_word counts (within_answer told) }
-{
-    match told {
-        Gathered::Inside(strains, measured) => first(strains) + second(measured),
-        Gathered::Refused(refused) => refusal(refused),
-    }
+    first(tally.strains) + second(tally.measured)
 }

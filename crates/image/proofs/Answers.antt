@@ -8,9 +8,9 @@ use lib.Dec.{eqb}
 use Rattle.image.specs.declared.refusal.Place.{Place}
 use Rattle.image.specs.declared.refusal.Refusal.{Refusal}
 use Rattle.image.specs.declared.refusal.Refusal.TheVariants.{Size, Edition, Wells, Metric, Count, Offsets, Length, RootNumber, Node, EqualCodes, Level, Cover, Separation, Plate, Neighbours, Room, NewProfile, NewCode, Held, Full}
-use Rattle.image.specs.declared.refusal.Answered.{Answered}
 use Rattle.image.specs.Refusals.{number_of, place_of}
-use Rattle.image.specs.Answer.{Outcome, answer_of, handed}
+use Rattle.image.specs.Answer.{Answered, given, Outcome, answer_of, handed}
+use Rattle.std.specs.Prelude.{Result, Ok, Err}
 
 -- the case of a number and a place
 abbrev case_of : ℕ → Place → Refusal
@@ -60,11 +60,16 @@ told (Full p) = refl
 pub told_by : (r s : Refusal) → number_of r ≡ number_of s → place_of r ≡ place_of s → r ≡ s
 told_by r s n p = sym (told r) ∙ ap₂ case_of n p ∙ told s
 
-same_answer : (r s : Answered) → answer_of r ≡ answer_of s → r ≡ s
-same_answer (Answered.Length m) (Answered.Length n) e = ap Answered.Length (cc)
-same_answer (Answered.Length m) (Answered.Refused s) e = let z : ◌≡◌ {A = ℕ} 0 1 = cc in absurd (omega arith)
-same_answer (Answered.Refused r) (Answered.Length n) e = let z : ◌≡◌ {A = ℕ} 0 1 = cc in absurd (omega arith)
-same_answer (Answered.Refused r) (Answered.Refused s) e = ap Answered.Refused (told_by r s (cc) (cc))
+pub same_answer : {Told : Type 0} (r s : Result Told Refusal) → answer_of r ≡ answer_of s → r ≡ s
+same_answer (Ok m) (Ok n) e = ap Ok (cc)
+same_answer (Ok m) (Err s) e = let z : ◌≡◌ {A = ℕ} 0 1 = cc in absurd (omega arith)
+same_answer (Err r) (Ok n) e = let z : ◌≡◌ {A = ℕ} 0 1 = cc in absurd (omega arith)
+same_answer (Err r) (Err s) e = ap Err (told_by r s (cc) (cc))
+
+-- an answer that tells something is no refusal
+pub given_ok : {Told : Type 0} (r : Result Told Refusal) {x : Told} → answer_of r ≡ given x → r ≡ Ok x
+given_ok (Ok y) e = ap Ok (cc)
+given_ok (Err s) e = let z : ◌≡◌ {A = ℕ} 0 1 = cc in absurd (omega arith)
 
 -- a contract that gives the outcome leaves one answer and one content of the slice
 pub one_answer : (r s : Answered) (b c : List ℕ) (o : Outcome) → handed r b ≡ o → handed s c ≡ o → (r ≡ s) × (b ≡ c)

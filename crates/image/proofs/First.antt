@@ -6,8 +6,7 @@ use Prim.Native.Nat.{ℕ, zero, suc, ◌+◌, ◌≤◌, ◌<◌}
 use native.Mathlib.Nat.{eq-or-lt_of_le}
 use native.Mathlib.Omega.{arith}
 use lib.Dec.{ltb}
-use borrow.Author.Count.{below_more}
-use borrow.Author.Tests.{lt-ltb, le-ltb, ltb-true, ltb-false}
+use borrow.Author.Tests.{ltb-true, ltb-false}
 use Rattle.image.specs.First.{first_from, first_below, later_below, First, FirstPair}
 use Rattle.image.proofs.Tests.{Tells, told_true, told_false}
 
@@ -61,31 +60,6 @@ found {n} {i} {p} l before hit = sym (first_is n p i (omega arith) before (λ u.
 
 pub none_found : {n i : ℕ} {p : ℕ → Bool} → n ≤ i → ((j : ℕ) → j < i → p j ≡ false) → n ≡ first_below n p
 none_found {n} {i} {p} l before = sym (first_is n p n (omega arith) (λ j u. before j (omega arith)) (λ u. absurd (omega arith)))
-
--- the same of pairs: no number before j has an earlier one with it
-pub record NoPair (p : ℕ → ℕ → Bool) (j : ℕ) : Type 0 where
-  pub none : (k : ℕ) → k < j → ltb (first_below k (p k)) k ≡ false
-
-pub no_pair : (p : ℕ → ℕ → Bool) → NoPair p 0
-no_pair p = record { none = λ k h. absurd (omega arith) }
-
-pub no_pair_next : {p : ℕ → ℕ → Bool} {j : ℕ} → NoPair p j → ltb (first_below j (p j)) j ≡ false → NoPair p (j + 1)
-no_pair_next before e = record { none = below_more _ _ before.none e }
-
-pub pair_next : {n j : ℕ} {p : ℕ → ℕ → Bool} → j < n → NoPair p j → ltb (first_below j (p j)) j ≡ true → j ≡ later_below n p
-unfolding later_below
-pair_next l before e = found l before.none e
-
--- where the earlier one itself was looked for
-pub no_pair_more : {p : ℕ → ℕ → Bool} {j r : ℕ} → NoPair p j → r ≡ first_below j (p j) → j ≤ r → NoPair p (j + 1)
-no_pair_more {j = j} before e l = no_pair_next before (le-ltb _ _ (subst (λ (x : ℕ). j ≤ x) e l))
-
-pub pair_found : {n j r : ℕ} {p : ℕ → ℕ → Bool} → j < n → NoPair p j → r ≡ first_below j (p j) → r < j → j ≡ later_below n p
-pair_found {j = j} l before e h = pair_next l before (lt-ltb _ _ (subst (λ (x : ℕ). x < j) e h))
-
-pub no_pair_found : {n j : ℕ} {p : ℕ → ℕ → Bool} → n ≤ j → NoPair p j → n ≡ later_below n p
-unfolding later_below
-no_pair_found l before = none_found l before.none
 
 -- ---- as a reader says it
 

@@ -9,3 +9,4 @@ pub mod Faults
 pub mod Answers
 pub mod Outcomes
 pub mod Runs
+pub mod Searches

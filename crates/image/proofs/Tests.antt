@@ -1,7 +1,8 @@
 -- A test tells whether something holds: it is true where that holds, and false where it does not. Assumes nothing.
 use mathlib.Core.Path.{◌≡◌, refl, sym}
 use mathlib.Core.Logic.{◌⊎◌, inl, inr, ⊎_elim}
-use mathlib.Core.Bool.{Bool, true, false, not, ◌||◌, ◌&&◌, true≢false}
+use Rattle.std.specs.Prelude.{Some, None}
+use mathlib.Core.Bool.{Bool, true, false, cond, not, ◌||◌, ◌&&◌, true≢false}
 use Prim.Native.Nat.{ℕ, ◌≤◌, ◌<◌}
 use native.Mathlib.Omega.{arith}
 use lib.Dec.{ltb, leb, eqb}
@@ -53,3 +54,12 @@ tells_le a b = record { yes = leb-true a b; no = λ e h. absurd (omega (arith, l
 
 pub tells_eq : (a b : ℕ) → Tells (eqb a b) (a ≡ b)
 tells_eq a b = record { yes = eqb-true a b; no = eqb-false a b }
+
+-- a value that is there where a test is true
+pub cond_none : {X : Type 0} (b : Bool) (x : X) → cond b (Some x) None ≡ None → b ≡ false
+cond_none true x e = cc
+cond_none false x e = refl
+
+pub cond_some : {X : Type 0} (b : Bool) (x y : X) → cond b (Some x) None ≡ Some y → (b ≡ true) × (x ≡ y)
+cond_some true x y e = (refl, cc)
+cond_some false x y e = cc

@@ -8,3 +8,4 @@ pub mod First
 pub mod Verdict
 pub mod Faults
 pub mod Answer
+pub mod Once

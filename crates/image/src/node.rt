@@ -14,7 +14,7 @@ pub fn parent(image: &[u8], i: usize) -> usize
     requires { 24 + 8 * i ≤ length image.now }
     ensures { (result ≡ parent_at image.now i) × (result < 65536) }
 {
-    crate::bytes::u16_at(image, 20 + 8 * i) as usize
+    usize::from(crate::bytes::u16_at(image, 20 + 8 * i))
 }
 
 pub fn level_byte(image: &[u8], i: usize) -> u8
@@ -36,7 +36,7 @@ pub fn level(image: &[u8], i: usize) -> i32
     requires { 24 + 8 * i ≤ length image.now }
     ensures { result ≡ level_at image.now i }
 {
-    level_byte(image, i) as i32 - 1
+    i32::from(level_byte(image, i)) - 1
 }
 
 // The first byte of record i's profile, in a library of so many strains and wells.

@@ -3,15 +3,15 @@ ghost use Rattle.std.specs.Prelude.{◌≡◌};
 ghost use Rattle.image.specs.Refusals.{number_of, place_of};
 
 // Where a refusal applies.
-#[derive(Clone, Copy)]
+#[derive(Clone, Copy, Debug, PartialEq, Eq)]
 pub enum Place {
     None,
     Record(usize),
     Pair { earlier: usize, later: usize },
 }
 
-// One case for each number of document 01's table, in its order.
-#[derive(Clone, Copy)]
+// One case for each number of document 01's table, in its order; document 01 asks for the place inside each case.
+#[derive(Clone, Copy, Debug, PartialEq, Eq)]
 pub enum Refusal {
     // the library
     Size(Place),
@@ -38,65 +38,60 @@ pub enum Refusal {
     Full(Place),
 }
 
-// The answer of a call that writes to the front of one slice: how much it wrote, or why it refused.
-#[derive(Clone, Copy)]
-pub enum Answered {
-    Length(usize),
-    Refused(Refusal),
-}
-
-// The number of a refusal in document 01's table.
-pub fn number(refusal: Refusal) -> u8
-    ensures { result ≡ number_of refusal }
-{
-    match refusal {
-        Refusal::Size(_) => 1,
-        Refusal::Edition(_) => 2,
-        Refusal::Wells(_) => 3,
-        Refusal::Metric(_) => 4,
-        Refusal::Count(_) => 5,
-        Refusal::Offsets(_) => 6,
-        Refusal::Length(_) => 7,
-        Refusal::RootNumber(_) => 8,
-        Refusal::Node(_) => 9,
-        Refusal::EqualCodes(_) => 10,
-        Refusal::Level(_) => 11,
-        Refusal::Cover(_) => 12,
-        Refusal::Separation(_) => 13,
-        Refusal::Plate(_) => 14,
-        Refusal::Neighbours(_) => 15,
-        Refusal::Room(_) => 16,
-        Refusal::NewProfile(_) => 17,
-        Refusal::NewCode(_) => 18,
-        Refusal::Held(_) => 19,
-        Refusal::Full(_) => 20,
+impl Refusal {
+    // Its number in document 01's table.
+    pub fn number(self) -> u8
+        ensures { result ≡ number_of self }
+    {
+        match self {
+            Refusal::Size(_) => 1,
+            Refusal::Edition(_) => 2,
+            Refusal::Wells(_) => 3,
+            Refusal::Metric(_) => 4,
+            Refusal::Count(_) => 5,
+            Refusal::Offsets(_) => 6,
+            Refusal::Length(_) => 7,
+            Refusal::RootNumber(_) => 8,
+            Refusal::Node(_) => 9,
+            Refusal::EqualCodes(_) => 10,
+            Refusal::Level(_) => 11,
+            Refusal::Cover(_) => 12,
+            Refusal::Separation(_) => 13,
+            Refusal::Plate(_) => 14,
+            Refusal::Neighbours(_) => 15,
+            Refusal::Room(_) => 16,
+            Refusal::NewProfile(_) => 17,
+            Refusal::NewCode(_) => 18,
+            Refusal::Held(_) => 19,
+            Refusal::Full(_) => 20,
+        }
     }
-}
 
-// The place that it tells.
-pub fn told_at(refusal: Refusal) -> Place
-    ensures { result ≡ place_of refusal }
-{
-    match refusal {
-        Refusal::Size(place) => place,
-        Refusal::Edition(place) => place,
-        Refusal::Wells(place) => place,
-        Refusal::Metric(place) => place,
-        Refusal::Count(place) => place,
-        Refusal::Offsets(place) => place,
-        Refusal::Length(place) => place,
-        Refusal::RootNumber(place) => place,
-        Refusal::Node(place) => place,
-        Refusal::EqualCodes(place) => place,
-        Refusal::Level(place) => place,
-        Refusal::Cover(place) => place,
-        Refusal::Separation(place) => place,
-        Refusal::Plate(place) => place,
-        Refusal::Neighbours(place) => place,
-        Refusal::Room(place) => place,
-        Refusal::NewProfile(place) => place,
-        Refusal::NewCode(place) => place,
-        Refusal::Held(place) => place,
-        Refusal::Full(place) => place,
+    // The place that it tells.
+    pub fn place(self) -> Place
+        ensures { result ≡ place_of self }
+    {
+        match self {
+            Refusal::Size(place)
+            | Refusal::Edition(place)
+            | Refusal::Wells(place)
+            | Refusal::Metric(place)
+            | Refusal::Count(place)
+            | Refusal::Offsets(place)
+            | Refusal::Length(place)
+            | Refusal::RootNumber(place)
+            | Refusal::Node(place)
+            | Refusal::EqualCodes(place)
+            | Refusal::Level(place)
+            | Refusal::Cover(place)
+            | Refusal::Separation(place)
+            | Refusal::Plate(place)
+            | Refusal::Neighbours(place)
+            | Refusal::Room(place)
+            | Refusal::NewProfile(place)
+            | Refusal::NewCode(place)
+            | Refusal::Held(place)
+            | Refusal::Full(place) => place,
+        }
     }
 }

@@ -1,6 +1,6 @@
-// The listing program: reads an image on standard input, and prints its listing, or `refused` and the number. No contract can speak of what is
-// read and printed: that the page holds what is to be printed of the bytes read is the contract of `text::print`, and that no more bytes need be
-// read is `printed_front` in crates/text/proofs/Theorems.antt.
+// The listing program: reads an image on standard input, and prints its listing, or `refused` and the number. No contract can speak of
+// what is read and printed: that the page holds what is to be printed of the bytes read is the contract of `text::print`, and that no more
+// bytes need be read is `printed_front` in crates/text/proofs/Theorems.antt.
 #![tactic(auto)]
 
 ghost use Rattle.std.specs.Prelude.{◌≤◌, length};
@@ -13,23 +13,19 @@ fn main(rt: HostRuntime) {
     let length = read_full(&mut rt.stdin(), &mut input);
     let mut page = [0u8; 147456];
     let end = text::print(&input[..length], &mut page);
-    match rt.write_all(&page[..end]) {
-        Ok(()) => (),
-        Err(_) => (),
-    }
+    let _ = rt.write_all(&page[..end]);
 }
 
 // The input's bytes, at most as many as there is room for: how many they are. A read that fails ends the input.
+// `read_exact` does not tell how many bytes a shorter input had, and `read_to_end` needs the heap.
 fn read_full<R: Read>(reader: &mut R, room: &mut [u8]) -> usize
     ensures { result ≤ length room.old }
 {
     let mut at = 0;
-    while at < room.len() {
-        match reader.read(&mut room[at..]) {
-            Ok(0) => break,
-            Ok(n) => at += n,
-            Err(_) => break,
-        }
+    while at < room.len()
+        && let Ok(n @ 1..) = reader.read(&mut room[at..])
+    {
+        at += n;
     }
     at
 }

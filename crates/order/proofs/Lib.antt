@@ -1,5 +1,4 @@
 -- The laws of a library's records in order of code.
-pub mod Filled
 pub mod Order
 pub mod Keys
 pub mod Profiles

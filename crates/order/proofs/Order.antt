@@ -1,9 +1,10 @@
 -- The records in ascending order of code: each is a record, and their strains are the library's in that order. Assumes nothing.
-use mathlib.Core.Path.{◌≡◌, refl, ap, ◌∙◌}
-use mathlib.Core.List.{List, [], ◌∷◌, map, Memᴰ}
-use Prim.Native.Nat.{ℕ, zero, suc, ◌<◌}
+use mathlib.Core.Path.{◌≡◌, ap, ◌∙◌}
+use mathlib.Core.List.{List, map, Memᴰ}
+use Prim.Native.Nat.{ℕ, ◌<◌}
 use native.Mathlib.Omega.{arith}
 use lib.ListN.{length, get_or}
+use Rattle.std.proofs.lemmas.List.{get_or-map}
 use Rattle.ranking.proofs.Places.{mem_get_or, get_or_mem}
 use Rattle.ranking.proofs.Sorted.{sort_length, sort_mem, sort_map}
 use Rattle.image.specs.Fields.{count_of, code_at}
@@ -12,12 +13,6 @@ use Rattle.image.proofs.Strains.{each_length, each_at}
 use Rattle.content.specs.Filing.{by_code}
 use Rattle.content.proofs.Filing.{each_map}
 use Rattle.order.specs.Key.{numbers_of, order_of}
-
--- what a list's elements are mapped to, one by one
-pub get_or_map_in : {A B : Type 0} (f : A → B) (xs : List A) (i : ℕ) (d : A) (e : B) → i < length xs → get_or (map f xs) i e ≡ f (get_or xs i d)
-get_or_map_in f [] i d e h = absurd (omega arith)
-get_or_map_in f (x ∷ xs) zero d e h = refl
-get_or_map_in f (x ∷ xs) (suc i) d e h = get_or_map_in f xs i d e (omega arith)
 
 module _ (xs : List ℕ) where
   -- the numbers are those below the count
@@ -42,4 +37,4 @@ module _ (xs : List ℕ) where
       ∙ ap by_code (each_map (strain_at xs) (λ (k : ℕ). k) 0 (count_of xs))
 
   pub order_strain : (i : ℕ) (d : Strain) → i < count_of xs → get_or (by_code (strains_of xs)) i d ≡ strain_at xs (get_or (order_of xs) i 0)
-  order_strain i d h = rw (← order_strains) (get_or_map_in (strain_at xs) (order_of xs) i 0 d (rw order_length h))
+  order_strain i d h = rw (← order_strains) (get_or-map (strain_at xs) (order_of xs) i 0 d (rw order_length h))

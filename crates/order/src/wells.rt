@@ -1,27 +1,27 @@
 // A profile, read.
-ghost use Rattle.std.specs.Prelude.{◌≡◌, ◌++◌, ◌+◌, ◌*◌, ◌≤◌, ◌<◌, length, drop};
+ghost use Rattle.std.specs.Prelude.{◌≡◌, ◌+◌, ◌*◌, ◌≤◌, ◌<◌, length};
 ghost use Rattle.profile.specs.Bytes.{wells_at};
 ghost use Rattle.image.specs.Fields.{code_at, profile_start};
 
-// Copies the profile at `at` out of an image's bytes.
-pub fn read(image: &[u8], at: usize, wells: usize, profile: &mut [i16])
-    requires { (wells ≤ 16) × (wells ≤ length profile.old) × (at + 2 * wells ≤ length image.now) }
-    ensures { profile.new ≡ wells_at image.now at wells ++ drop wells profile.old }
+use image::records::Records;
+
+// Copies the profile at `at` out of an image's bytes, as many wells as are asked for.
+pub fn read(image: &[u8], at: usize, profile: &mut [i16])
+    requires { at + 2 * length profile.old ≤ length image.now }
+    ensures { profile.new ≡ wells_at image.now at (length profile.old) }
 {
-    let mut i = 0;
-    while i < wells {
-        profile[i] = profile::well::read(image, at + 2 * i);
-        i += 1;
+    for (i, well) in profile.iter_mut().enumerate() {
+        *well = profile::well::read(image, at + 2 * i);
     }
 }
 
-// The strain of record `from`, in a library of so many strains and wells: copies its profile, and gives its code.
-pub fn strain(image: &[u8], wells: usize, count: usize, from: usize, profile: &mut [i16]) -> u32
-    requires { (wells ≤ 16) × (count ≤ 1024) × (from < count) × (16 + 8 * count + 2 * (wells * count) ≤ length image.now) × (wells ≤ length profile.old) }
-    ensures code { result ≡ code_at image.now from }
-    ensures profile { profile.new ≡ wells_at image.now (profile_start count wells from) wells ++ drop wells profile.old }
+// The strain of record `from`: copies its profile, and gives its code.
+pub fn strain(records: &Records<'_>, from: usize, profile: &mut [i16]) -> u32
+    requires from_in_bounds { from < records.now.shape.count }
+    requires wells { length profile.old ≡ records.now.shape.wells }
+    ensures code { result ≡ code_at records.now.image.now from }
+    ensures profile { profile.new ≡ wells_at records.now.image.now (profile_start records.now.shape.count records.now.shape.wells from) records.now.shape.wells }
 {
-    let at = image::node::profile_start(count, wells, from);
-    read(image, at, wells, profile);
-    image::node::code(image, from)
+    read(records.image, records.shape.profile_start(from), profile);
+    records.code(from)
 }

@@ -10,7 +10,7 @@ use lib.ListN.{length, get_or, drop, replicate, drop_of_length-le}
 use lib.Seq.{drop-cons}
 use mir.Syntax.{w16}
 use mir.Val.{SFits}
-use Rattle.profile.specs.Distance.{Wells, none, well, Profile, gap, joined, city_block, largest, distance}
+use Rattle.profile.specs.Distance.{Wells, none, well, Profile, gap, joined, distance}
 use Rattle.profile.specs.Metric.{Metric}
 use Rattle.profile.proofs.Wells.{gap_self, gap_symmetric, gap_triangle, gap_apart, gap_bound}
 
@@ -89,20 +89,19 @@ module _ (op : ℕ → ℕ → ℕ) where
 
 -- ---- by the metric's number
 
-pub distance_city_block : (m : ℕ) (xs ys : List ℤ) → m ≡ 1 → city_block xs ys ≡ distance m xs ys
-unfolding distance
-distance_city_block m xs ys e = rw e refl
-
-pub distance_largest : (m : ℕ) (xs ys : List ℤ) → m ≡ 2 → largest xs ys ≡ distance m xs ys
-unfolding distance
-distance_largest m xs ys e = rw e refl
-
 pub distance_other : (m : ℕ) (xs ys : List ℤ) → (m ≡ 1 → ⊥) → (m ≡ 2 → ⊥) → 0 ≡ distance m xs ys
 unfolding distance
 distance_other zero xs ys f g = refl
 distance_other (suc zero) xs ys f g = absurd (f refl)
 distance_other (suc (suc zero)) xs ys f g = absurd (g refl)
 distance_other (suc (suc (suc m))) xs ys f g = refl
+
+pub distance_symmetric : (m : ℕ) (xs ys : List ℤ) → distance m xs ys ≡ distance m ys xs
+unfolding distance
+distance_symmetric zero xs ys = refl
+distance_symmetric (suc zero) xs ys = joined_symmetric ◌+◌ xs ys
+distance_symmetric (suc (suc zero)) xs ys = joined_symmetric max xs ys
+distance_symmetric (suc (suc (suc m))) xs ys = refl
 
 -- both metrics obey the metric laws on profiles of equal length
 pub distance_metric : (m w : ℕ) → (m ≡ 1) ⊎ (m ≡ 2) → Metric (List ℤ) (λ xs. length xs ≡ w) (distance m)

@@ -7,12 +7,11 @@ use native.Mathlib.Nat.{pow-suc, le_trans, le_antisymm, mul-le-mul_left, zero-mu
 use native.Mathlib.Omega.{arith}
 use native.Mathlib.Decide.{dec_le}
 use lib.Dec.{T}
-use lib.IntN.{ℤ, pos, negsuc, suc_ℤ, ◌+ℤ◌, ◌-ℤ◌, -ℤ_one}
+use lib.IntN.{ℤ, pos, negsuc, suc_ℤ, ◌+ℤ◌, ◌-ℤ◌}
 use lib.Signed.{le_z, ◌≤ℤ◌, ◌<ℤ◌, ≤ℤ_refl}
 use lib.Pow.{pow_pos, pow_mono}
 use mir.Syntax.{w32}
-use mir.Val.{SFits, to_z}
-use mir.ValLaws.{to_z_pos}
+use mir.Val.{SFits}
 use Rattle.profile.specs.Level.{◌>2^◌, ◌≤2^◌, Fitting, level_of, lower, bits, bit_length, fitting_level, cover_limit, Printed}
 use Rattle.profile.proofs.Signs.{same, less_up, less_down, le_no, le_parts, parts_le, lt_parts, parts_lt, suc_parts}
 
@@ -97,9 +96,6 @@ level_next (suc b) = ap pos (omega arith)
 pub level_in_32 : (b : ℕ) → b < 256 → SFits w32 (level_of b)
 level_in_32 zero h = record { sfits = omega arith }
 level_in_32 (suc b) h = record { sfits = omega arith }
-
-pub level_less : (b : ℕ) → b < 256 → to_z w32 b -ℤ pos 1 ≡ level_of b
-level_less b h = ap (λ (z : ℤ). z -ℤ pos 1) (to_z_pos w32 b (omega arith)) ∙ -ℤ_one (pos b)
 
 -- no byte's level is below -1
 pub byte_least : (b : ℕ) → negsuc 0 ≤ℤ level_of b

@@ -1,11 +1,32 @@
 -- The laws of a profile in an image's bytes. Assumes nothing.
 use mathlib.Core.Path.{◌≡◌, refl, ap, ◌∙◌}
+use mathlib.Core.Bool.{Bool, true, false, cond}
 use mathlib.Core.List.{List}
-use Prim.Native.Nat.{ℕ, zero, suc, ◌+◌, ◌*◌, ◌<◌}
+use Prim.Native.Nat.{ℕ, zero, suc, ◌+◌, ◌-◌, ◌*◌, ◌<◌}
 use native.Mathlib.Omega.{arith}
-use lib.IntN.{pos}
+use lib.Dec.{ltb}
+use lib.IntN.{pos, negsuc, ◌-ℤ◌}
 use lib.ListN.{length, get_or}
-use Rattle.profile.specs.Bytes.{well_at, wells_at}
+use mir.Syntax.{w16}
+use mir.Val.{to_z, sel}
+use Rattle.profile.proofs.Signs.{same, less_up, less_down}
+use Rattle.profile.specs.Bytes.{signed, well_at, wells_at}
+
+-- 16 bits are read as the machine reads them
+as_signed : (n : ℕ) → n < 65536 → to_z w16 n ≡ signed n
+unfolding signed
+as_signed n h = go (ltb n 32768)
+  where
+    upper : negsuc (65536 - suc n) ≡ pos n -ℤ pos 65536
+    upper = same _ (pos n -ℤ pos 65536) (omega (arith, less_up (pos n) (pos 65536))) (omega (arith, less_down (pos n) (pos 65536)))
+
+    go : (b : Bool) → sel b (pos n) (negsuc (65536 - suc n)) ≡ cond b (pos n) (pos n -ℤ pos 65536)
+    go true = refl
+    go false = upper
+
+-- and so are two bytes, the lower first
+pub two_bytes : (low high : ℕ) → low < 256 → high < 256 → to_z w16 (low + high * 256) ≡ signed (low + 256 * high)
+two_bytes low high h k = let e : low + high * 256 ≡ low + 256 * high = omega arith in rw e (as_signed _ (omega arith))
 
 module _ (bytes : List ℕ) where
   pub wells_length : (at n : ℕ) → length (wells_at bytes at n) ≡ n

@@ -1,8 +1,9 @@
-// Profiles and distances: wells, the two metrics in each form a profile comes in, and the fitting level.
+// Profiles and distances: wells, the two metrics, the distance of any two profiles, and the fitting level.
 #![tactic(auto)]
 
+pub mod distance; // distance.rt: the distance of any two profiles
 pub mod level; // level.rt: the fitting level of a distance
-pub mod lists; // lists.rt: the distance of two lists of wells
-pub mod pair; // pair.rt: the distance of two profiles in an image's bytes
-pub mod plate; // plate.rt: the distance of a plate and a profile in an image's bytes
-pub mod well; // well.rt: one well: read from its bytes, and the difference of two
+pub mod metric; // metric.rt: the two metrics
+pub mod source; // source.rt: what a profile can be read from
+pub mod well; // well.rt: one well, read from its bytes
+pub mod written_out; // written_out.rt: a metric and a width that the compiler knows

@@ -3,9 +3,10 @@ pub mod Last
 pub mod Insert
 pub mod Order
 pub mod Places
+pub mod Placed
 pub mod Sorted
+pub mod Permuted
+pub mod Turned
 pub mod First
 pub mod Ranks
-pub mod Shift
-pub mod Front
 pub mod Running

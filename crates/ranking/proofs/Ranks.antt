@@ -3,8 +3,7 @@ use mathlib.Core.Path.{◌≡◌}
 use mathlib.Core.Logic.{◌⊎◌, inl, inr}
 use Prim.Native.Nat.{◌≤◌, ◌<◌}
 use native.Mathlib.Omega.{arith}
-use Rattle.ranking.specs.Found.{Found, rank}
-use Rattle.ranking.specs.Best.{distance_of, code_of}
+use Rattle.ranking.specs.Found.{Found, rank, distance_of, code_of}
 use Rattle.ranking.proofs.Insert.{split}
 
 pub rank_distance : (f : Found) → f.code < 4294967296 → distance_of (rank f) ≡ f.distance

@@ -1,32 +1,36 @@
--- The running list as the struct `Best` holds it: ranks in ascending order, and 0 behind them. Assumes nothing.
-use Rattle.std.specs.Prelude.{◌≡◌, cond, List, ◌++◌, ℕ, ◌-◌, ◌/◌, ◌%◌, ◌≤◌, eqb, length, get_or, take, replicate}
+-- The running list, as callers see the struct `Best` and as its fields hold it: ranks in ascending order, and 0 behind them.
+-- Assumes nothing.
+use Rattle.std.specs.Prelude.{◌≡◌, cond, ◌||◌, Bool, List, ◌++◌, ℕ, ◌-◌, ◌≤◌, eqb, ltb, length, get_or, take, drop, replicate}
 use Rattle.ranking.specs.Sort.{itself}
 use Rattle.ranking.specs.Order.{Ascending}
-use Rattle.ranking.specs.declared.best.Best.{Best}
-
--- the distance and the code in a rank
-abbrev pub distance_of : ℕ → ℕ
-distance_of rank = rank / 4294967296
-
-abbrev pub code_of : ℕ → ℕ
-code_of rank = rank % 4294967296
+use Rattle.ranking.specs.Found.{distance_of}
+use Rattle.ranking.specs.Running.{Running}
+use Rattle.ranking.specs.declared.best.Best.TheInside.{Inside}
 
 -- a running list of at most k
-unfoldable pub best_of : ℕ → List ℕ → Best
-best_of k kept = record { ranks = kept ++ replicate (32 - length kept) 0; held = length kept; asked = k }
+abbrev pub best_of : ℕ → List ℕ → Running
+best_of k kept = record { asked = k; kept = kept }
 
--- the ranks that it keeps
-unfoldable pub kept_of : Best → List ℕ
-kept_of b = take b.held b.ranks
+-- the list that the fields hold
+abbrev pub held_in : Inside → Running
+held_in b = best_of b.asked (take b.held b.ranks)
 
--- it is in order, and not longer than it may be
-pub record Running (b : Best) : Type 0 where
-  pub form : b ≡ best_of b.asked (kept_of b)
+-- what holds of the fields: the list is in order and not longer than it may be, and 0 stands behind it
+pub record Holds (b : Inside) : Type 0 where
   pub some : 1 ≤ b.asked
   pub most : b.asked ≤ 32
   pub room : b.held ≤ b.asked
-  pub ascending : Ascending itself (kept_of b)
+  pub ascending : Ascending itself (take b.held b.ranks)
+  pub zeros : drop b.held b.ranks ≡ replicate (32 - b.held) 0
+
+-- whether a rank enters the list: it is not full, or its last rank is higher
+abbrev pub enters_in : ℕ → List ℕ → ℕ → Bool
+enters_in k kept rank = ltb (length kept) k || ltb rank (get_or kept (k - 1) 0)
 
 -- what lies further than this is not kept: the worst distance kept, once k are kept. Before, the highest number of 32 bits, which no distance exceeds
 unfoldable pub bound_of : ℕ → List ℕ → ℕ
 bound_of k kept = cond (eqb (length kept) k) (distance_of (get_or kept (k - 1) 0)) 4294967295
+
+-- the places of a list that is written: the ranks kept, and 0 in those that are left of the k
+abbrev pub places_of : ℕ → List ℕ → List ℕ
+places_of k kept = kept ++ replicate (k - length kept) 0

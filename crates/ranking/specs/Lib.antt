@@ -3,4 +3,5 @@ pub mod Sort
 pub mod Order
 pub mod Found
 pub mod First
+pub mod Running
 pub mod Best

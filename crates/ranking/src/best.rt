@@ -1,70 +1,98 @@
-// The running list: up to 32 best of all that was offered, by distance and then code. It is taken and handed back as each strain is offered.
-ghost use Rattle.std.specs.Prelude.{◌≡◌, cond, ◌||◌, [], ◌++◌, ◌+◌, ◌<◌, ltb, take, drop};
+// The running list: up to 32 best of all that was offered, by distance and then code. It is taken and handed back as each strain is offered, as
+// document 01 asks.
+ghost use Rattle.std.specs.Prelude.{◌≡◌, [], ◌-◌, ◌<◌, length, take};
 ghost use Rattle.ranking.specs.Sort.{itself, insert};
 ghost use Rattle.ranking.specs.Order.{Ascending};
 ghost use Rattle.ranking.specs.First.{offered};
-ghost use Rattle.ranking.specs.Best.{distance_of, best_of, kept_of, Running};
+ghost use Rattle.ranking.specs.Best.{best_of, enters_in, bound_of, places_of};
 
-#[derive(Clone, Copy)]
+use crate::asked::Asked;
+use std::marker::Model;
+
+#[derive(Drop)]
 pub struct Best {
-    pub ranks: [u64; 32], // `held` ranks in ascending order, and 0 behind them
-    pub held: usize,
-    pub asked: usize,
+    ranks: [u64; 32], // `held` ranks in ascending order, and 0 behind them
+    held: usize,
+    asked: usize,
 }
 
-// What lies further than this is not kept: the distance of the last of those asked for, once they are held.
-pub fn bound(held: usize, asked: usize, last: u64) -> u32
-    ensures { result ≡ cond (ltb held asked) 4294967295 (distance_of last) }
-{
-    if held < asked {
-        4294967295
-    } else {
-        crate::found::distance_of(last)
-    }
+// Clauses see the ranks that are kept, and how many are asked for.
+impl Model for Best {
+    ghost use Rattle.ranking.specs.Running.{Running};
+
+    ghost Value = { Running };
+
+    ghost use Rattle.ranking.specs.Best.{held_in, Holds};
+
+    ghost view = { held_in };
+
+    ghost invariant = { Holds };
 }
 
-// Whether a rank enters a list: it is not full, or its last rank is higher.
-pub fn enters(held: usize, asked: usize, last: u64, rank: u64) -> bool
-    ensures { result ≡ (ltb held asked || ltb rank last) }
+// Puts a rank in among those before the last, which are in order, and the last goes.
+fn put_in(ranks: &mut [u64], rank: u64)
+    requires some { 0 < length ranks.old }
+    requires ascending { Ascending itself (take (length ranks.old - 1) ranks.old) }
+    ensures { ranks.new ≡ insert itself rank (take (length ranks.old - 1) ranks.old) }
 {
-    (held < asked) | (rank < last)
-}
-
-// Puts a rank in among those before `at`, which are in order.
-fn place(ranks: &mut [u64; 32], at: usize, rank: u64)
-    requires { (at < 32) × Ascending itself (take at ranks.old) }
-    ensures { ranks.new ≡ insert itself rank (take at ranks.old) ++ drop (at + 1) ranks.old }
-{
+    let last = ranks.len() - 1;
+    let at = ranks[..last].partition_point(|other| *other <= rank);
+    ranks[at..].rotate_right(1);
     ranks[at] = rank;
-    crate::sort::put_in(ranks, at);
 }
 
 impl Best {
-    pub fn none(asked: usize) -> Best
-        ensures { result ≡ best_of asked [] }
+    pub fn none(asked: Asked) -> Best
+        ensures { result ≡ best_of asked.many [] }
     {
         Best {
-            ranks: [0u64; 32],
+            ranks: [0; 32],
             held: 0,
-            asked,
+            asked: asked.many,
         }
     }
 
-    // Takes a strain's rank, if the list has room or holds a higher rank, which then goes.
-    pub fn offer(mut self, rank: u64) -> Best
-        requires { Running self }
-        ensures { result ≡ best_of self.asked (offered itself self.asked rank (kept_of self)) }
+    // Whether a rank enters the list: it is not full, or its last rank is higher.
+    pub fn enters(&self, rank: u64) -> bool
+        ensures { result ≡ enters_in self.now.asked self.now.kept rank }
     {
-        let held = self.held;
-        if held < self.asked {
-            place(&mut self.ranks, held, rank);
-            self.held = held + 1;
+        (self.held < self.asked) | (rank < self.ranks[self.asked - 1])
+    }
+
+    // What lies further than this is not kept: the distance of the last of those asked for, once they are held.
+    pub fn bound(&self) -> u32
+        ensures { result ≡ bound_of self.now.asked self.now.kept }
+    {
+        if self.held < self.asked {
+            u32::MAX
         } else {
-            let last = held - 1;
-            if rank < self.ranks[last] {
-                place(&mut self.ranks, last, rank);
-            }
+            crate::found::distance_of(self.ranks[self.asked - 1])
         }
+    }
+
+    // Lets a strain's rank in, if the list has room or holds a higher rank, which then goes.
+    fn let_in(&mut self, rank: u64)
+        ensures { self.new ≡ best_of self.old.asked (offered itself self.old.asked rank self.old.kept) }
+    {
+        if self.enters(rank) {
+            let held = self.asked.min(self.held + 1);
+            put_in(&mut self.ranks[..held], rank);
+            self.held = held;
+        }
+    }
+
+    // The list with a strain's rank offered to it.
+    pub fn offer(mut self, rank: u64) -> Best
+        ensures { result ≡ best_of self.asked (offered itself self.asked rank self.kept) }
+    {
+        self.let_in(rank);
         self
+    }
+
+    // As many places as were asked for: the ranks, and 0 where there are fewer.
+    pub fn places(&self) -> &[u64]
+        ensures { result.now ≡ places_of self.now.asked self.now.kept }
+    {
+        &self.ranks[..self.asked]
     }
 }

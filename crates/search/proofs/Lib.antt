@@ -4,6 +4,7 @@ pub mod Only
 pub mod Scans
 pub mod Seeking
 pub mod Puts
+pub mod Reached
 pub mod Gathers
 pub mod Walked
 pub mod Serves

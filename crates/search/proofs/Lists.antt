@@ -10,8 +10,7 @@ use lib.ListN.{length, get_or, length-map}
 use borrow.Author.Tests.{le-leb, lt-leb}
 use Rattle.ranking.specs.Sort.{insert, sort_by}
 use Rattle.ranking.specs.Order.{Ascending, Distinct}
-use Rattle.ranking.specs.Found.{Found, rank}
-use Rattle.ranking.specs.Best.{code_of}
+use Rattle.ranking.specs.Found.{Found, rank, code_of}
 use Rattle.ranking.proofs.Insert.{split, insert_before, insert_after}
 use Rattle.ranking.proofs.Ranks.{rank_code}
 use Rattle.ranking.proofs.Places.{distinct_get_or}

@@ -1,13 +1,13 @@
 -- What a search hands back, from its verdict, and how its verdict comes about. Assumes nothing.
-use mathlib.Core.Path.{◌≡◌, refl, sym, ap, ◌∙◌}
+use mathlib.Core.Path.{◌≡◌, refl, sym}
 use mathlib.Core.Logic.{◌≢◌, ◌⊎◌, inl, inr}
-use mathlib.Core.Bool.{true, false, ◌||◌}
+use mathlib.Core.Bool.{◌||◌}
 use mathlib.Core.List.{List, ◌++◌}
-use Prim.Native.Nat.{ℕ, ◌≤◌, ◌<◌}
+use Prim.Native.Nat.{ℕ, ◌≤◌, ◌<◌, min}
 use native.Mathlib.Omega.{arith}
 use lib.Dec.{ltb}
 use lib.IntN.{ℤ}
-use borrow.Author.Tests.{ltb-false}
+use Rattle.ranking.proofs.Insert.{split}
 use Rattle.image.specs.declared.refusal.Place.{Place}
 use Rattle.image.specs.declared.refusal.Refusal.{Refusal}
 use Rattle.image.specs.Fields.{wells_of, count_of}
@@ -16,17 +16,15 @@ use Rattle.image.specs.Refusals.{number_of, place_of}
 use Rattle.image.specs.Verdict.{Verdict, accepted, refused, Rule, judge}
 use Rattle.image.proofs.Tests.{Tells, told_true, told_false, tells_or, tells_lt}
 use Rattle.image.proofs.Verdicts.{hit, pass, accepted_none, judge_on, judge_stops}
-use Rattle.checker.specs.declared.Checked.{Checked}
-use Rattle.checker.specs.Check.{check_rules, check_of, answer_of}
+use Rattle.checker.specs.Check.{check_rules, check_of}
 use Rattle.checker.proofs.Table.{tells_other}
-use Rattle.checker.proofs.Passed.{or_false}
-use Rattle.checker.proofs.Accepted.{accepted_exactly, if_accepted}
+use Rattle.checker.proofs.Accepted.{accepted_exactly}
 use Rattle.image.specs.Answer.{given, denied}
 use Rattle.search.specs.Answer.{Outcome, outcome, handed}
 use Rattle.search.specs.Rules.{slice_rules, radius_rules}
 use Rattle.search.specs.Calls.{around}
 use Rattle.search.specs.Steps.{Lists}
-use Rattle.search.specs.declared.inside.Tally.{Tally}
+use Rattle.search.specs.declared.Tally.{Tally}
 
 module _ {Told : Type 0} (v : Verdict) (good : Outcome Told) (codes distances : List ℕ) where
   -- refused, all is as it was
@@ -62,16 +60,6 @@ pub image_accepted : {xs : List ℕ} → Library xs → (rules : List Rule) → 
 unfolding check_of
 image_accepted {xs} l rules = judge_on (check_rules xs) rules ((accepted_exactly xs).1 l)
 
--- what is handed back, from the check's answer
-module _ {Told : Type 0} (xs : List ℕ) (rules : List Rule) (good : Outcome Told) (codes distances : List ℕ) (checked : Checked) (is : answer_of checked ≡ check_of xs) where
-  pub check_refused : (r : Refusal) → checked ≡ Checked.Refused r
-      → handed (denied (number_of r) (place_of r)) codes distances ≡ outcome (judge (check_rules xs ++ rules)) good codes distances
-  check_refused r e = when_refused _ good codes distances r (image_refused xs rules r (sym (ap answer_of e) ∙ is))
-
-  pub check_passed : checked ≡ Checked.Accepted → {o : Outcome Told} → o ≡ outcome (judge rules) good codes distances
-      → o ≡ outcome (judge (check_rules xs ++ rules)) good codes distances
-  check_passed e h = after_rules _ good codes distances _ h (image_accepted (if_accepted xs checked is e) rules)
-
 -- ---- rule 16: either slice has fewer places than are needed
 
 module _ (needed codes distances : ℕ) where
@@ -86,14 +74,12 @@ module _ (needed codes distances : ℕ) where
       neither (inl u) = omega arith
       neither (inr u) = omega arith
 
-  -- the code tests for n places, which are as many
-  module _ {n : ℕ} (same : n ≡ needed) where
-    pub too_short : (ltb codes n || ltb distances n) ≡ true → judge (slice_rules needed codes distances) ≡ refused 16 Place.None
-    unfolding slice_rules
-    too_short e = sym (hit _ _ _ _ (rw same at e) refl)
-
-    pub not_short : (ltb codes n || ltb distances n) ≡ false → (needed ≤ codes) × (needed ≤ distances)
-    not_short e = let w = or_false (ltb codes needed) (ltb distances needed) (rw same at e) in (ltb-false codes needed w.0, ltb-false distances needed w.1)
+  pub too_short : min codes distances < needed → judge (slice_rules needed codes distances) ≡ refused 16 Place.None
+  unfolding slice_rules
+  too_short h = sym (hit _ _ _ _ (told_true tells_short either) refl)
+    where
+      either : (codes < needed) ⊎ (distances < needed)
+      either = split codes needed inl (λ l. inr (omega arith))
 
 -- ---- within a radius, rule 14: the plate has not as many values as the library has wells
 

@@ -1,34 +1,30 @@
--- The first ranks of a list written one by one, each by a part of it. Assumes nothing.
-use mathlib.Core.Path.{◌≡◌, ap, ◌∙◌}
-use mathlib.Core.List.{List, [], ◌∷◌, ◌++◌, map, map-append}
-use Prim.Native.Nat.{ℕ, suc, ◌+◌, ◌<◌}
-use native.Mathlib.Numerals.{add-one}
+-- A part of each rank of a list, written one by one in front of another list, or from a place of it on. Assumes nothing.
+use mathlib.Core.Path.{◌≡◌, sym, ◌∙◌}
+use mathlib.Core.List.{List, [], ◌++◌, map, map-append, append_assoc, append-nil}
+use Prim.Native.Nat.{ℕ, ◌+◌, ◌-◌, ◌≤◌, ◌<◌}
 use native.Mathlib.Omega.{arith}
-use lib.ListN.{length, get_or, take, set, length-map}
-use lib.Seq.{sets, take-suc, length-take-le, length-sets}
+use borrow.Rule.Slice.PartMut.{mid_of, put_mid}
+use lib.ListN.{length, get_or, take, drop, set, length-map, length-drop, drop_of_length-le}
+use lib.Seq.{sets, sets-eq, set_at, append_snoc, length-take-le}
+use Rattle.std.proofs.lemmas.List.{take_more, drop_more, take_rest, drop-drop}
 
--- one more store at the end of a run
-sets_last : (l : List ℕ) (at : ℕ) (vs : List ℕ) (v : ℕ) → sets l at (vs ++ v ∷ []) ≡ set (sets l at vs) (at + length vs) v
-sets_last l at [] v = let e : at + 0 ≡ at = omega arith in rw e
-sets_last l at (u ∷ us) v = let e : suc at + length us ≡ at + suc (length us) = omega arith in sets_last (set l at u) (suc at) us v ∙ rw e
+pub put_more : (part : ℕ → ℕ) (ranks before : List ℕ) (i : ℕ) {now : List ℕ} {v : ℕ} → i < length ranks → i < length before
+    → now ≡ map part (take i ranks) ++ drop i before → v ≡ part (get_or ranks i 0)
+    → set now i v ≡ map part (take (i + 1) ranks) ++ drop (i + 1) before
+put_more part ranks before i h room is one =
+    let front = map part (take i ranks) in
+    let n : length front ≡ i = length-map (take i ranks) part ∙ length-take-le i ranks (omega arith) in
+    let written = set_at front (get_or before i 0) (drop (i + 1) before) (part (get_or ranks i 0)) i n in
+    rw (is, one, drop_more before i 0 room, written, take_more ranks i 0 h, map-append)
+    (sym (append_snoc front (part (get_or ranks i 0)) (drop (i + 1) before)))
 
--- so many of them are written, from a place on
-pub record Put (part : ℕ → ℕ) (ranks before : List ℕ) (at many : ℕ) (now : List ℕ) : Type 0 where
-  pub is : now ≡ sets before at (map part (take many ranks))
-
-module _ {part : ℕ → ℕ} {ranks before : List ℕ} {at i : ℕ} {now : List ℕ} (p : Put part ranks before at i now) where
-  pub put_length : length now ≡ length before
-  put_length = ap length p.is ∙ length-sets before at (map part (take i ranks))
-
-  pub put_more : {v : ℕ} → i < length ranks → v ≡ part (get_or ranks i 0) → Put part ranks before at (i + 1) (set now (at + i) v)
-  put_more {v} h e = record { is = one_more }
-    where
-      front : List ℕ
-      front = map part (take i ranks)
-
-      one_more : set now (at + i) v ≡ sets before at (map part (take (i + 1) ranks))
-      one_more =
-          let n : length front ≡ i = length-map (take i ranks) part ∙ length-take-le i ranks (omega arith) in
-          let last : sets before at (front ++ part (get_or ranks i 0) ∷ []) ≡ set (sets before at front) (at + length front) (part (get_or ranks i 0)) =
-          sets_last before at front (part (get_or ranks i 0)) in
-          rw (p.is, e, add-one, take-suc ranks i 0 h, map-append, last, n)
+pub put_from : (part : ℕ → ℕ) (ranks : List ℕ) (at : ℕ) (xs : List ℕ) {now : List ℕ} → at + length ranks ≤ length xs
+    → now ≡ map part ranks ++ drop (length ranks) (mid_of at (length xs - at) xs)
+    → put_mid at (length xs - at) xs now ≡ sets xs at (map part ranks)
+put_from part ranks at xs room is =
+    let n : length (map part ranks) ≡ length ranks = length-map ranks part in
+    let none : drop (length xs - at) (drop at xs) ≡ [] =
+    drop_of_length-le (drop at xs) {i = length xs - at} (omega (arith, length-drop at xs)) in
+    let nothing = append-nil (map part ranks ++ drop (length ranks) (drop at xs)) in
+    rw (is, take_rest xs at, none, nothing, drop-drop, sets-eq (map part ranks) xs at (omega arith), n)
+    (sym (append_assoc (take at xs) (map part ranks) (drop (at + length ranks) xs)))

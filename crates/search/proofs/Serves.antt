@@ -1,27 +1,28 @@
 -- The places of a sitting's plates, filled one plate after the other. Assumes nothing.
 use mathlib.Core.Path.{◌≡◌, refl, sym, ap, ◌∙◌, transport}
 use mathlib.Core.List.{List, ◌++◌, map, map-append, append_assoc, append-nil}
+use mathlib.Core.Logic.{◌↔◌}
 use mathlib.Core.List.Memᴰ
 use mathlib.Core.List.{Memᴰ}
 use Prim.Native.Nat.{ℕ, zero, suc, ◌+◌, ◌*◌, ◌-◌, ◌≤◌, ◌<◌}
-use native.Mathlib.Nat.{mul_comm, suc-mul, mul-le-mul_left}
+use native.Mathlib.Nat.{mul_comm, suc-mul, zero-mul, le-div_iff_mul-le}
+use native.Mathlib.Decide.{ℕ_discrete}
 use native.Mathlib.Omega.{arith}
+use Rattle.std.proofs.Common.{drop-drop}
 use lib.IntN.{ℤ}
-use lib.ListN.{length, take, drop, replicate, length-append, length-map, length-replicate, length-take, length-drop, take-append-drop, replicate-append-replicate}
-use lib.Seq.{sets, sets-eq, length-sets, take_at, take-append-add}
-use Rattle.ranking.specs.Found.{Found, rank}
-use Rattle.ranking.specs.Best.{distance_of, code_of, best_of}
+use lib.ListN.{length, take, drop, replicate, length-append, length-map, length-replicate, length-take, length-drop, take-append-drop}
+use lib.Seq.{sets, sets-eq, take_at, drop_at}
+use Rattle.ranking.specs.Found.{Found, rank, distance_of, code_of}
+use Rattle.ranking.specs.Best.{best_of, places_of}
 use Rattle.ranking.specs.declared.best.Best.{Best}
 use Rattle.ranking.proofs.Ranks.{rank_distance, rank_code}
-use Rattle.image.specs.Fields.{wells_of, metric_of, count_of}
+use Rattle.image.specs.Fields.{wells_of}
 use Rattle.image.specs.Library.{Library}
 use Rattle.image.proofs.Sizes.{row_in}
 use Rattle.image.proofs.Runs.{sets_append}
 use Rattle.content.specs.Bytes.{Bytes}
-use Rattle.walk.specs.LaidOut.{LaidOut, Walking}
 use Rattle.search.specs.Ranked.{ranked, nearest, plates_in, plate_at, places, rows}
 use Rattle.search.specs.Calls.{code_in, distance_in, served}
-use Rattle.search.specs.Steps.{ToServe}
 use Rattle.search.proofs.Lists.{ranked_codes}
 use Rattle.search.proofs.Walked.{parts}
 
@@ -52,20 +53,10 @@ module _ (part : ℕ → ℕ) (is : Found → ℕ) (zero_is : part 0 ≡ 0) wher
   zeros_part zero = refl
   zeros_part (suc many) = cc (zero_is, zeros_part many)
 
-  pub best_places : (k : ℕ) (fs : List Found) → ((f : Found) → Memᴰ f fs → part (rank f) ≡ is f) → length fs ≤ k → k ≤ 32
-      → map part (take k (best_of k (map rank fs)).ranks) ≡ places k is fs
-  unfolding best_of places
-  best_places k fs same few most =
-      let n : length (map rank fs) ≡ length fs = length-map fs rank in
-      let more : k ≡ length (map rank fs) + (k - length fs) = omega arith in
-      let rest : 32 - length (map rank fs) ≡ (k - length fs) + (32 - k) = omega arith in
-      let front : take k (map rank fs ++ zeros (32 - length (map rank fs))) ≡ map rank fs ++ zeros (k - length fs) =
-      ap (λ (m : ℕ). take m (map rank fs ++ zeros (32 - length (map rank fs)))) more
-      ∙ take-append-add (map rank fs) (zeros (32 - length (map rank fs))) (k - length fs)
-      ∙ ap (λ (m : ℕ). map rank fs ++ take (k - length fs) (zeros m)) rest
-      ∙ ap (λ (zs : List ℕ). map rank fs ++ take (k - length fs) zs) (sym (replicate-append-replicate (k - length fs) (32 - k) 0))
-      ∙ ap (λ (zs : List ℕ). map rank fs ++ zs) (take_at (zeros (k - length fs)) (zeros (32 - k)) (k - length fs) (length-replicate (k - length fs) 0)) in
-      rw (front, map-append, zeros_part, parts part is fs same)
+  pub best_places : (k : ℕ) (fs : List Found) → ((f : Found) → Memᴰ f fs → part (rank f) ≡ is f)
+      → map part (places_of k (map rank fs)) ≡ places k is fs
+  unfolding places
+  best_places k fs same = rw (map-append, zeros_part, parts part is fs same, length-map fs rank)
 
 nearest_few : (xs : List ℕ) (k : ℕ) (plate : List ℤ) → length (nearest xs k plate) ≤ k
 unfolding nearest
@@ -95,93 +86,103 @@ module _ (xs : List ℕ) (plates : List ℤ) (k : ℕ) (part : Found → ℕ) wh
     serving_none = record { filled = refl }
 
     module _ {j : ℕ} {slice : List ℕ} (s : Serving xs plates k part lent j slice) where
-      pub serving_length : length slice ≡ length lent
-      serving_length = ap length s.filled ∙ length-sets lent 0 (rows xs k part plates 0 j)
-
-      pub serving_more : {slice' new : List ℕ} → slice' ≡ sets slice (j * k) new → new ≡ places k part (nearest xs k (plate_at xs plates j))
-          → Serving xs plates k part lent (j + 1) slice'
-      serving_more {slice'} {new} e n = record { filled = more }
+      pub serving_more : {at : ℕ} {plate : List ℤ} {slice' : List ℕ} → at ≡ j * k → plate ≡ plate_at xs plates j
+          → slice' ≡ sets slice at (places k part (nearest xs k plate)) → Serving xs plates k part lent (j + 1) slice'
+      serving_more {at} {plate} {slice'} is_at is_plate e = record { filled = more }
         where
+          new : List ℕ
+          new = places k part (nearest xs k (plate_at xs plates j))
+
           more : slice' ≡ sets lent 0 (rows xs k part plates 0 (j + 1))
           more =
               let one : j + 1 ≡ suc j = omega arith in
               let none : 0 + j ≡ j = omega arith in
-              let at : j * k ≡ 0 + length (rows xs k part plates 0 j) = omega (arith, rows_length 0 j) in
+              let behind : at ≡ 0 + length (rows xs k part plates 0 j) = omega (arith, is_at, rows_length 0 j) in
               e
-              ∙ ap (sets slice (j * k)) n
-              ∙ ap (λ (l : List ℕ). sets l (j * k) (places k part (nearest xs k (plate_at xs plates j)))) s.filled
-              ∙ ap (λ (i : ℕ). sets (sets lent 0 (rows xs k part plates 0 j)) i (places k part (nearest xs k (plate_at xs plates j)))) at
-              ∙ sym (sets_append lent (rows xs k part plates 0 j) (places k part (nearest xs k (plate_at xs plates j))) 0)
+              ∙ ap (λ (p : List ℤ). sets slice at (places k part (nearest xs k p))) is_plate
+              ∙ ap (λ (l : List ℕ). sets l at new) s.filled
+              ∙ ap (λ (i : ℕ). sets (sets lent 0 (rows xs k part plates 0 j)) i new) behind
+              ∙ sym (sets_append lent (rows xs k part plates 0 j) new 0)
               ∙ ap (λ (i : ℕ). sets lent 0 (rows xs k part plates 0 j ++ places k part (nearest xs k (plate_at xs plates i)))) (sym none)
               ∙ ap (sets lent 0) (sym (rows_last 0 j) ∙ ap (rows xs k part plates 0) (sym one))
 
-      pub serving_all : j * k ≤ length lent → slice ≡ rows xs k part plates 0 j ++ drop (j * k) lent
-      serving_all h =
-          let n : 0 + length (rows xs k part plates 0 j) ≡ j * k = omega (arith, rows_length 0 j) in
-          s.filled ∙ sets-eq (rows xs k part plates 0 j) lent 0 (omega arith) ∙ rw n
+      pub serving_all : j ≡ plates_in xs plates → plates_in xs plates * k ≤ length lent → slice ≡ served xs plates k part lent
+      serving_all e h =
+          let n : 0 + length (rows xs k part plates 0 (plates_in xs plates)) ≡ plates_in xs plates * k = omega (arith, rows_length 0 (plates_in xs plates)) in
+          (rw e at s.filled) ∙ sets-eq (rows xs k part plates 0 (plates_in xs plates)) lent 0 (omega arith) ∙ rw n
 
 -- ---- what a turn of the sitting is given and gives
 
 take_mem : {A : Type 0} (k : ℕ) (l : List A) {a : A} → Memᴰ a (take k l) → Memᴰ a l
 take_mem {A} k l {a} m = transport (λ i. Memᴰ a (take-append-drop k l i)) (Memᴰ.append_left (drop k l) m)
 
-module _ {xs : List ℕ} (b : Bytes xs) (l : Library xs) (k : ℕ) (most : k ≤ 32) (plate : List ℤ) where
+module _ {xs : List ℕ} (b : Bytes xs) (l : Library xs) (k : ℕ) (plate : List ℤ) where
   nearest_code : {f : Found} → Memᴰ f (nearest xs k plate) → f.code < 4294967296
   unfolding nearest
   nearest_code m = ranked_codes xs plate b l (take_mem k (ranked xs plate) m)
 
-  module _ {best : Best} (e : best ≡ best_of k (map rank (nearest xs k plate))) where
-    pub best_long : k ≤ length best.ranks
-    unfolding best_of
-    best_long = rw e (simp (length-append, length-replicate, length-map) (omega (arith, nearest_few xs k plate)))
+  module _ {best : Best} (e : best ≡ best_of k (map rank (nearest xs k plate))) {ranks : List ℕ} (r : ranks ≡ places_of best.asked best.kept) where
+    pub ranks_long : length ranks ≡ k
+    ranks_long = rw (r, e) (simp (length-append, length-replicate, length-map) (omega (arith, nearest_few xs k plate)))
 
-    pub code_places : {plate' : List ℤ} → plate ≡ plate' → map code_of (take k best.ranks) ≡ places k code_in (nearest xs k plate')
-    code_places p = rw (← p, e) (best_places code_of code_in refl k (nearest xs k plate) (λ f m. rank_code f (nearest_code m)) (nearest_few xs k plate) most)
+    pub code_places : map code_of ranks ≡ places k code_in (nearest xs k plate)
+    code_places = rw (r, e) (best_places code_of code_in refl k (nearest xs k plate) (λ f m. rank_code f (nearest_code m)))
 
-    pub distance_places : {plate' : List ℤ} → plate ≡ plate' → map distance_of (take k best.ranks) ≡ places k distance_in (nearest xs k plate')
-    distance_places p = rw (← p, e) (best_places distance_of distance_in refl k (nearest xs k plate) (λ f m. rank_distance f (nearest_code m)) (nearest_few xs k plate) most)
+    pub distance_places : map distance_of ranks ≡ places k distance_in (nearest xs k plate)
+    distance_places = rw (r, e) (best_places distance_of distance_in refl k (nearest xs k plate) (λ f m. rank_distance f (nearest_code m)))
 
-module _ {xs : List ℕ} {plates : List ℤ} {many k codes distances : ℕ} (s : ToServe xs plates many k codes distances) where
-  pub codes_room_lem : (j : ℕ) → j < many → j * k + k ≤ codes
-  codes_room_lem j h = omega (arith, row_room k h, s.codes_room)
+-- the plates that are left, from plate j on
+pub record Left (xs : List ℕ) (plates : List ℤ) (j : ℕ) (rest : List ℤ) (wells : ℕ) : Type 0 where
+  pub low : j ≤ plates_in xs plates
+  pub is_rest : rest ≡ drop (j * wells_of xs) plates
+  pub is_wells : wells ≡ wells_of xs
 
-  pub distances_room_lem : (j : ℕ) → j < many → j * k + k ≤ distances
-  distances_room_lem j h = omega (arith, row_room k h, s.distances_room)
+-- plate j is taken, and these are left
+pub record Taken (xs : List ℕ) (plates : List ℤ) (j : ℕ) (plate rest : List ℤ) (wells : ℕ) : Type 0 where
+  pub there : j < plates_in xs plates
+  pub is_plate : plate ≡ plate_at xs plates j
+  pub left : Left xs plates (j + 1) rest wells
 
-  pub places_small : (j : ℕ) → j < many → j * k + k ≤ 2048
-  places_small j h =
-      let few : many * k ≤ 64 * k = rw (mul_comm many k, mul_comm 64 k) (mul-le-mul_left k s.most) in
-      omega (arith, row_room k h, s.most_k)
+pub left_all : {xs : List ℕ} {plates rest : List ℤ} {wells : ℕ} → rest ≡ plates → wells ≡ wells_of xs → Left xs plates 0 rest wells
+left_all {xs} {plates} r w = record { low = omega arith; is_rest = r ∙ ap (λ (i : ℕ). drop i plates) (sym (zero-mul (wells_of xs))); is_wells = w }
 
-  -- at the last plate
-  pub all_served : (part : Found → ℕ) (lent slice : List ℕ) (j : ℕ) → many ≤ j → j ≤ many → many * k ≤ length lent → Serving xs plates k part lent j slice
-      → slice ≡ served xs plates k part lent
-  all_served part lent slice j high low room done =
-      let e : j ≡ plates_in xs plates = omega (arith, s.is_many) in
-      serving_all xs plates k part lent done (omega (arith, ap (λ (n : ℕ). n * k) e, ap (λ (n : ℕ). n * k) s.is_many))
-      ∙ ap (λ (n : ℕ). rows xs k part plates 0 n ++ drop (n * k) lent) e
+module _ {xs : List ℕ} (l : Library xs) {plates : List ℤ} {j : ℕ} {rest : List ℤ} {wells : ℕ} (t : Left xs plates j rest wells) where
+  some : 0 < wells_of xs
+  some = omega (arith, l.layout.wells.0)
 
-  -- how many values plate j has before it, and with it
-  module _ {wells : ℕ} (is_wells : wells ≡ wells_of xs) {j : ℕ} (h : j < many) where
-    pub plate_room : j * wells + wells ≤ length plates
-    plate_room = rw (is_wells, s.values) (row_room (wells_of xs) h)
+  long : length rest ≡ length plates - j * wells_of xs
+  long = ap length t.is_rest ∙ length-drop (j * wells_of xs) plates
 
-    pub plate_small : j * wells + wells ≤ 1024
-    plate_small =
-        let few : many * wells ≤ 64 * wells = rw (mul_comm many wells, mul_comm 64 wells) (mul-le-mul_left wells s.most) in
-        omega (arith, row_room wells h, s.library.layout.wells.1, is_wells)
+  -- there are as many as fit into the values
+  one_more : (suc j ≤ plates_in xs plates) ↔ (suc j * wells_of xs ≤ length plates)
+  one_more = le-div_iff_mul-le some
 
-    pub plate_is : take (j * wells + wells - j * wells) (drop (j * wells) plates) ≡ plate_at xs plates j
-    unfolding plate_at
-    plate_is = let e : j * wells + wells - j * wells ≡ wells = omega arith in rw (e, is_wells)
+  pub left_more : {plate rest' : List ℤ} {wells' : ℕ} → rest ≡ plate ++ rest' → length plate ≡ wells → wells' ≡ wells → Taken xs plates j plate rest' wells'
+  unfolding plate_at
+  left_more {plate} {rest'} e n w =
+      let there : j < plates_in xs plates =
+      one_more.1 (omega (arith, row_next (wells_of xs) j, long, ap length e, length-append plate rest', n, t.is_wells, some)) in
+      record {
+        there = there;
+        is_plate = sym (take_at plate rest' (wells_of xs) (n ∙ t.is_wells)) ∙ ap (take (wells_of xs)) (sym e ∙ t.is_rest);
+        left = record {
+          low = omega (arith, there);
+          is_rest =
+              sym (drop_at plate rest' (wells_of xs) (n ∙ t.is_wells))
+              ∙ ap (drop (wells_of xs)) (sym e ∙ t.is_rest)
+              ∙ drop-drop (wells_of xs) (j * wells_of xs) plates
+              ∙ ap (λ (i : ℕ). drop i plates) (omega (arith, row_next (wells_of xs) j));
+          is_wells = w ∙ t.is_wells;
+        };
+      }
 
-    pub plate_walking : {metric count : ℕ} {order end : List ℕ} → metric ≡ metric_of xs → count ≡ count_of xs → LaidOut xs order end
-        → Walking xs metric wells count order end (take (j * wells + wells - j * wells) (drop (j * wells) plates))
-    plate_walking is_metric is_count laid = record {
-      library = s.library;
-      is_metric = is_metric;
-      is_wells = is_wells;
-      is_count = is_count;
-      laid = laid;
-      fits = simp (length-take, length-drop) (omega (arith, plate_room));
-    }
+  pub left_none : length rest < wells → j ≡ plates_in xs plates
+  left_none h = by (ℕ_discrete j (plates_in xs plates))
+    where
+      by : Dec (j ≡ plates_in xs plates) → j ≡ plates_in xs plates
+      by (yes e) = e
+      by (no ne) = absurd (omega (arith, row_next (wells_of xs) j, long, t.is_wells, one_more.0 (omega (arith, t.low, ne))))
+
+-- a turn's places lie in a slice that has room for all
+pub turn_room : (k : ℕ) {many j room : ℕ} → j < many → many * k ≤ room → j * k + k ≤ room
+turn_room k h r = omega (arith, row_room k h)

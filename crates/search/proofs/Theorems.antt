@@ -35,7 +35,8 @@ use Rattle.walk.specs.Weighed.{weighed, found_at, reach_at}
 use Rattle.walk.specs.Measured.{measured_in, is_measured, measured_from, measured_count}
 use Rattle.search.specs.Ranked.{ranked, nearest, inside, within_radius, plates_in, plate_at, places, rows}
 use Rattle.image.specs.Answer.{given}
-use Rattle.search.specs.Answer.{Outcome, Counts, outcome, Alike}
+use Rattle.search.specs.Answer.{Outcome, outcome, Alike}
+use Rattle.search.specs.declared.Tally.{Tally}
 use Rattle.search.specs.Rules.{plate_rules, sitting_rules, radius_rules, within_rules}
 use Rattle.search.specs.Calls.{code_in, distance_in, served, sitting_of, listed, within_of}
 use Rattle.search.proofs.Serves.{nearest_places}
@@ -48,7 +49,7 @@ use Rattle.search.proofs.Outcomes.{granted, image_accepted}
 
 -- ---- the tree does not matter
 
-alike : (v : Verdict) {good good' : Outcome Counts} (codes distances : List ℕ) → Alike good good'
+alike : (v : Verdict) {good good' : Outcome Tally} (codes distances : List ℕ) → Alike good good'
     → Alike (outcome v good codes distances) (outcome v good' codes distances)
 unfolding outcome
 alike accepted codes distances a = a

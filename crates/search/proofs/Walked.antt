@@ -3,18 +3,15 @@ use mathlib.Core.Path.{◌≡◌, refl, sym, ap, ◌∙◌}
 use mathlib.Core.Bool.{Bool, true, false, cond}
 use mathlib.Core.List.{List, [], ◌∷◌, ◌++◌, map, map-map}
 use mathlib.Core.List.{Memᴰ}
-use Prim.Native.Nat.{ℕ, ◌+◌, ◌≤◌, ◌<◌}
-use native.Mathlib.Omega.{arith}
+use Prim.Native.Nat.{ℕ, ◌<◌}
 use lib.Dec.{leb}
 use lib.IntN.{ℤ}
 use lib.ListN.{length, take, drop, length-map}
-use lib.Seq.{sets, sets-eq, take_at}
+use lib.Seq.{take_at}
 use Rattle.ranking.specs.Sort.{itself, sort_by}
-use Rattle.ranking.specs.Found.{Found, rank}
-use Rattle.ranking.specs.Best.{distance_of, code_of}
+use Rattle.ranking.specs.Found.{Found, rank, distance_of, code_of}
 use Rattle.ranking.proofs.Ranks.{rank_distance, rank_code}
 use Rattle.ranking.proofs.Sorted.{sort_length, sort_map}
-use Rattle.image.specs.Fields.{count_of}
 use Rattle.image.specs.Library.{Library}
 use Rattle.content.specs.Bytes.{Bytes}
 use Rattle.walk.specs.Forest.{nodes, forest_of}
@@ -24,7 +21,7 @@ use Rattle.walk.proofs.Measured.{measures_counted}
 use Rattle.search.specs.Ranked.{ranked, inside, within_radius}
 use Rattle.search.specs.Calls.{code_in, distance_in, listed}
 use Rattle.search.specs.Steps.{Gathers, Lists}
-use Rattle.search.specs.declared.inside.Tally.{Tally}
+use Rattle.search.specs.declared.Tally.{Tally}
 use Rattle.search.proofs.Lists.{inside_mem, inside_sort, ranked_codes}
 use Rattle.search.proofs.Scans.{walked_ranked}
 
@@ -47,13 +44,9 @@ module _ (part : ℕ → ℕ) (is : Found → ℕ) where
   parts [] same = refl
   parts (f ∷ fs) same = cc (same f (Memᴰ.head refl), parts fs (λ g m. same g (Memᴰ.tail m)))
 
-  part_written : (fs : List Found) → ((f : Found) → Memᴰ f fs → part (rank f) ≡ is f) → {many : ℕ} → many ≡ length fs
-      → (rest lent : List ℕ) → length fs ≤ length lent → sets lent 0 (map part (take many (map rank fs ++ rest))) ≡ listed fs is lent
-  part_written fs same {many} e rest lent h =
-      let n : length (map is fs) ≡ length fs = length-map fs is in
-      let room : 0 + length (map is fs) ≤ length lent = omega arith in
-      let z : 0 + length (map is fs) ≡ length fs = omega arith in
-      rw (take_at (map rank fs) rest many (length-map fs rank ∙ sym e), parts fs same, sets-eq (map is fs) lent 0 room, z)
+  part_written : (fs : List Found) → ((f : Found) → Memᴰ f fs → part (rank f) ≡ is f) → {ranks : List ℕ} → ranks ≡ map rank fs → (lent : List ℕ)
+      → map part ranks ++ drop (length ranks) lent ≡ listed fs is lent
+  part_written fs same e lent = rw (e, parts fs same, length-map)
 
 module _ {xs : List ℕ} (plate : List ℤ) (b : Bytes xs) (l : Library xs) (radius : ℕ) where
   abbrev met : List ℕ
@@ -80,20 +73,19 @@ module _ {xs : List ℕ} (plate : List ℤ) (b : Bytes xs) (l : Library xs) (rad
 
   -- what is met, gathered, sorted and written
   pub gathered_lists : {before ranks sorted codes distances codes' distances' : List ℕ} {tally : Tally} → Gathers xs plate radius before ranks tally
-      → sorted ≡ sort_by itself (take tally.strains ranks) ++ drop tally.strains ranks
-      → codes' ≡ sets codes 0 (map code_of (take tally.strains sorted))
-      → distances' ≡ sets distances 0 (map distance_of (take tally.strains sorted))
-      → count_of xs ≤ length codes → count_of xs ≤ length distances
+      → sorted ≡ sort_by itself (take tally.strains ranks)
+      → codes' ≡ map code_of sorted ++ drop (length sorted) codes
+      → distances' ≡ map distance_of sorted ++ drop (length sorted) distances
       → Lists xs plate radius codes distances codes' distances' tally
-  gathered_lists {before} {ranks} {sorted} {codes} {distances} {tally = tally} g isSorted is_codes is_distances codes_room distances_room = record {
-    is_codes = is_codes ∙ listed_by code_of code_in (λ f m. rank_code f (near_code m)) codes codes_room;
-    is_distances = is_distances ∙ listed_by distance_of distance_in (λ f m. rank_distance f (near_code m)) distances distances_room;
-    strains = many;
+  gathered_lists {before} {ranks} {sorted} {codes} {distances} {tally = tally} g isSorted is_codes is_distances = record {
+    is_codes = is_codes ∙ part_written code_of code_in near (λ f m. rank_code f (near_code m)) sorted_is codes;
+    is_distances = is_distances ∙ part_written distance_of distance_in near (λ f m. rank_distance f (near_code m)) sorted_is distances;
+    strains = g.strains ∙ sym near_length;
     measured = g.measured ∙ measures_counted l radius plate;
   }
     where
-      many : tally.strains ≡ length (within_radius xs radius plate)
-      many = g.strains ∙ sym near_length
+      near : List Found
+      near = within_radius xs radius plate
 
       front : take tally.strains ranks ≡ map (λ i. rank (found_at xs plate i)) met
       front =
@@ -101,10 +93,5 @@ module _ {xs : List ℕ} (plate : List ℤ) (b : Bytes xs) (l : Library xs) (rad
           (take_at (map (λ i. rank (found_at xs plate i)) met) (drop tally.strains before) tally.strains
           (length-map met (λ i. rank (found_at xs plate i)) ∙ sym g.strains))
 
-      in_order : sorted ≡ map rank (within_radius xs radius plate) ++ drop tally.strains ranks
-      in_order = isSorted ∙ ap (λ (ks : List ℕ). ks ++ drop tally.strains ranks) (ap (sort_by itself) front ∙ ranks_sorted)
-
-      listed_by : (part : ℕ → ℕ) (is : Found → ℕ) → ((f : Found) → Memᴰ f (within_radius xs radius plate) → part (rank f) ≡ is f)
-          → (lent : List ℕ) → count_of xs ≤ length lent → sets lent 0 (map part (take tally.strains sorted)) ≡ listed (within_radius xs radius plate) is lent
-      listed_by part is same lent room =
-          rw in_order (part_written part is (within_radius xs radius plate) same many (drop tally.strains ranks) lent (omega (arith, g.few, many)))
+      sorted_is : sorted ≡ map rank near
+      sorted_is = isSorted ∙ ap (sort_by itself) front ∙ ranks_sorted

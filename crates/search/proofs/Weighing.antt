@@ -3,8 +3,8 @@
 -- tree (`SittingGives`, by `nearest` in specs/Ranked.antt). And the walk that the code goes by, `trace` in crates/walk/specs/Walk.antt, measures each
 -- record or passes it over for a reason that rules it out: that is said here. What a function measures cannot be seen from outside, so no contract names
 -- `trace`. That the code goes by it stands in the proof of `nearest::nearest`: its loop carries `Stands` (Seeking.antt), by which the steps that `trace`
--- has from the loop's place on, with what is kept there, are those that are left of all steps. `seeks_first` is the loop's start, `walks_on` and `seeks`
--- are its turn, and `sought` is its end. Assumes nothing.
+-- has from the loop's place on, with what is kept there, are those that are left of all steps. `seeks_none` is the loop's start, `seeks_on` is its turn,
+-- and `sought` is its end. Assumes nothing.
 use mathlib.Core.Path.{◌≡◌, sym, ap, ◌∙◌}
 use mathlib.Core.List.Memᴰ
 use mathlib.Core.List.{List, [], map, Memᴰ}

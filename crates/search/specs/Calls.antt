@@ -5,11 +5,10 @@ use Rattle.image.specs.Fields.{count_of}
 use Rattle.image.specs.Verdict.{judge}
 use Rattle.search.specs.Ranked.{within_radius, plates_in, rows}
 use Rattle.walk.specs.Measured.{measured_count}
-use Rattle.image.specs.Answer.{given}
-use Rattle.search.specs.Answer.{Outcome, Counts, outcome, sitting_answer, within_answer, handed}
-use Rattle.search.specs.Rules.{sitting_rules, within_rules}
-use Rattle.search.specs.declared.Served.{Served}
-use Rattle.search.specs.declared.Gathered.{Gathered}
+use Rattle.image.specs.Answer.{given, answer_of}
+use Rattle.search.specs.declared.Tally.{Tally}
+use Rattle.search.specs.Answer.{Outcome, outcome, Served, Gathered, handed}
+use Rattle.search.specs.Rules.{plate_rules, sitting_rules, radius_rules, within_rules}
 
 -- the parts of a strain found that are written
 abbrev pub code_in : Found → ℕ
@@ -39,22 +38,33 @@ abbrev pub listed : List Found → (Found → ℕ) → List ℕ → List ℕ
 listed fs part lent = map part fs ++ drop (length fs) lent
 
 -- a search within a radius that is not refused
-abbrev pub around : List ℕ → List ℤ → ℕ → (codes distances : List ℕ) → Outcome Counts
+abbrev pub around : List ℕ → List ℤ → ℕ → (codes distances : List ℕ) → Outcome Tally
 around xs plate radius codes distances = record {
   answer = given (record { strains = length (within_radius xs radius plate); measured = measured_count xs radius plate });
   codes = listed (within_radius xs radius plate) code_in codes;
   distances = listed (within_radius xs radius plate) distance_in distances;
 }
 
-unfoldable pub within_of : List ℕ → List ℤ → ℕ → (codes distances : List ℕ) → Outcome Counts
+unfoldable pub within_of : List ℕ → List ℤ → ℕ → (codes distances : List ℕ) → Outcome Tally
 within_of xs plate radius codes distances =
     outcome (judge (within_rules xs (length plate) (length codes) (length distances))) (around xs plate radius codes distances) codes distances
 
 -- the contracts: the answer and both slices are the outcome's
 abbrev pub SittingGives : (image : List ℕ) → (plates : List ℤ) → (k : ℕ) → (codes distances : List ℕ) → Served → (codes' distances' : List ℕ) → Type 0
 SittingGives image plates k codes distances r codes' distances' =
-    handed (sitting_answer r) codes' distances' ≡ sitting_of image plates k codes distances
+    handed (answer_of r) codes' distances' ≡ sitting_of image plates k codes distances
 
 abbrev pub WithinGives : (image : List ℕ) → (plate : List ℤ) → (radius : ℕ) → (codes distances : List ℕ) → Gathered → (codes' distances' : List ℕ) → Type 0
 WithinGives image plate radius codes distances r codes' distances' =
-    handed (within_answer r) codes' distances' ≡ within_of image plate radius codes distances
+    handed (answer_of r) codes' distances' ≡ within_of image plate radius codes distances
+
+-- and of the two over an accepted library, where the rules on the image are passed
+abbrev pub SatGives : (image : List ℕ) → (plates : List ℤ) → (k : ℕ) → (codes distances : List ℕ) → Served → (codes' distances' : List ℕ) → Type 0
+SatGives image plates k codes distances r codes' distances' =
+    handed (answer_of r) codes' distances'
+    ≡ outcome (judge (plate_rules image (length plates) k (length codes) (length distances))) (sat image plates k codes distances) codes distances
+
+abbrev pub AroundGives : (image : List ℕ) → (plate : List ℤ) → (radius : ℕ) → (codes distances : List ℕ) → Gathered → (codes' distances' : List ℕ) → Type 0
+AroundGives image plate radius codes distances r codes' distances' =
+    handed (answer_of r) codes' distances'
+    ≡ outcome (judge (radius_rules image (length plate) (length codes) (length distances))) (around image plate radius codes distances) codes distances

@@ -1,26 +1,20 @@
 -- What the steps inside the searches promise each other. Assumes nothing.
-use Rattle.std.specs.Prelude.{◌≡◌, List, map, ◌++◌, ℕ, ◌*◌, ◌≤◌, ℤ, length, drop}
+use Rattle.std.specs.Prelude.{◌≡◌, List, map, ◌++◌, ℕ, ◌≤◌, ℤ, length, drop}
+use Rattle.std.proofs.lemmas.List.Edits.{sets}
 use Rattle.ranking.specs.Found.{rank}
-use Rattle.image.specs.Fields.{wells_of, count_of}
-use Rattle.image.specs.Library.{Library}
+use Rattle.image.specs.Fields.{count_of}
 use Rattle.walk.specs.Forest.{nodes, forest_of}
 use Rattle.walk.specs.Walk.{within, measures}
 use Rattle.walk.specs.Weighed.{found_at, reach_at}
 use Rattle.walk.specs.Measured.{measured_count}
-use Rattle.search.specs.Ranked.{within_radius, plates_in}
+use Rattle.search.specs.Ranked.{nearest, places, within_radius}
 use Rattle.search.specs.Calls.{code_in, distance_in, listed}
-use Rattle.search.specs.declared.inside.Tally.{Tally}
+use Rattle.search.specs.declared.Tally.{Tally}
 
--- what a sitting that is not refused is given
-pub record ToServe (xs : List ℕ) (plates : List ℤ) (many k codes distances : ℕ) : Type 0 where
-  pub library : Library xs
-  pub is_many : many ≡ plates_in xs plates
-  pub values : length plates ≡ many * wells_of xs
-  pub most : many ≤ 64
-  pub some_k : 1 ≤ k
-  pub most_k : k ≤ 32
-  pub codes_room : many * k ≤ codes
-  pub distances_room : many * k ≤ distances
+-- a plate's places are filled, from a place on
+pub record Fills (xs : List ℕ) (plate : List ℤ) (k at : ℕ) (codes distances codes' distances' : List ℕ) : Type 0 where
+  pub is_codes : codes' ≡ sets codes at (places k code_in (nearest xs k plate))
+  pub is_distances : distances' ≡ sets distances at (places k distance_in (nearest xs k plate))
 
 -- the ranks of the strains inside a radius stand in front of a slice, in the order of the walk; the tally counts them, and what was measured
 pub record Gathers (xs : List ℕ) (plate : List ℤ) (radius : ℕ) (before after : List ℕ) (tally : Tally) : Type 0 where

@@ -4,7 +4,6 @@
 
 ghost use Rattle.search.specs.Calls.{SittingGives, WithinGives};
 
-use checker::Checked;
 use image::refusal::Refusal;
 
 pub mod sit; // sit.rt: a sitting over an accepted library
@@ -14,32 +13,25 @@ mod put; // put.rt: what was found, written
 mod radius; // radius.rt: the search within a radius of an accepted library
 mod serve; // serve.rt: the plates of a sitting, one after the other
 
-#[derive(Clone, Copy)]
-pub enum Served {
-    Filled(usize), // how many of each plate's places hold a strain
-    Refused(Refusal),
+// What a search within a radius tells.
+#[derive(Clone, Copy, Debug, PartialEq, Eq)]
+pub struct Tally {
+    pub strains: usize, // how many lie within it
+    pub measured: usize, // how many profiles were measured
 }
 
-#[derive(Clone, Copy)]
-pub enum Gathered {
-    Inside(usize, usize), // how many strains lie within the radius, and how many profiles were measured
-    Refused(Refusal),
-}
-
-// The k nearest strains of each plate, by distance and then code.
+// The k nearest strains of each plate, by distance and then code. Tells how many of each plate's places hold a strain.
 pub fn sitting(
     image: &[u8],
     plates: &[i16],
     k: u32,
     codes: &mut [u32],
     distances: &mut [u32],
-) -> Served
+) -> Result<usize, Refusal>
     ensures { SittingGives image.now plates.now k codes.old distances.old result codes.new distances.new }
 {
-    match checker::check(image) {
-        Checked::Refused(refusal) => Served::Refused(refusal),
-        Checked::Accepted => sit::sit(image, plates, k, codes, distances),
-    }
+    let library = checker::accept(image)?;
+    sit::sit(&library, plates, k, codes, distances)
 }
 
 // The strains within a radius of a plate, by distance and then code.
@@ -49,11 +41,9 @@ pub fn within(
     radius: u32,
     codes: &mut [u32],
     distances: &mut [u32],
-) -> Gathered
+) -> Result<Tally, Refusal>
     ensures { WithinGives image.now plate.now radius codes.old distances.old result codes.new distances.new }
 {
-    match checker::check(image) {
-        Checked::Refused(refusal) => Gathered::Refused(refusal),
-        Checked::Accepted => radius::around(image, plate, radius, codes, distances),
-    }
+    let library = checker::accept(image)?;
+    radius::around(&library, plate, radius, codes, distances)
 }

@@ -1,19 +1,16 @@
 // What was found, written: the codes and distances of a list of ranks.
-ghost use Rattle.std.specs.Prelude.{◌≡◌, map, ◌+◌, ◌≤◌, length, take};
-ghost use Rattle.std.proofs.lemmas.List.Edits.{sets};
-ghost use Rattle.ranking.specs.Best.{distance_of, code_of};
+ghost use Rattle.std.specs.Prelude.{◌≡◌, ◌++◌, map, ◌≤◌, length, drop};
+ghost use Rattle.ranking.specs.Found.{distance_of, code_of};
 
-// So many of them, from place `at` on.
-pub fn put(ranks: &[u64], many: usize, codes: &mut [u32], distances: &mut [u32], at: usize)
-    requires { (many ≤ length ranks.now) × (at + many ≤ length codes.old) × (at + many ≤ length distances.old) }
-    ensures codes { codes.new ≡ sets codes.old at (map code_of (take many ranks.now)) }
-    ensures distances { distances.new ≡ sets distances.old at (map distance_of (take many ranks.now)) }
+// In the front of two slices.
+#[tactic(auto, using(crate::proofs::Puts::put_more))]
+pub fn put(ranks: &[u64], codes: &mut [u32], distances: &mut [u32])
+    requires { (length ranks.now ≤ length codes.old) × (length ranks.now ≤ length distances.old) }
+    ensures codes { codes.new ≡ map code_of ranks.now ++ drop (length ranks.now) codes.old }
+    ensures distances { distances.new ≡ map distance_of ranks.now ++ drop (length ranks.now) distances.old }
 {
-    let mut i = 0;
-    while i < many {
-        let rank = ranks[i];
-        codes[at + i] = ranking::found::code_of(rank);
-        distances[at + i] = ranking::found::distance_of(rank);
-        i += 1;
+    for (i, rank) in ranks.iter().enumerate() {
+        codes[i] = ranking::found::code_of(*rank);
+        distances[i] = ranking::found::distance_of(*rank);
     }
 }

@@ -7,14 +7,15 @@ use native.Mathlib.Nat.{div_self, mod_self, zero-mul}
 use native.Mathlib.Omega.{arith}
 use lib.Dec.{ltb}
 use lib.IntN.{ℤ}
+use Rattle.std.specs.Prelude.{min}
 use lib.ListN.{length, drop, drop_of_length-le}
 use lib.Seq.{sets, sets-eq, take_all}
 use borrow.Author.Tests.{lt-ltb, le-ltb}
 use Rattle.ranking.specs.Found.{Found}
 use Rattle.image.specs.declared.refusal.Place.{Place}
-use Rattle.image.specs.Fields.{wells_of}
+use Rattle.image.specs.Fields.{wells_of, count_of}
 use Rattle.image.specs.Library.{Library}
-use Rattle.image.specs.Verdict.{Verdict, accepted, refused, rule, when, judge}
+use Rattle.image.specs.Verdict.{accepted, refused, rule, when, judge}
 use Rattle.image.specs.Answer as image
 use Rattle.image.proofs.Tests.{told_true, told_false}
 use Rattle.image.proofs.Verdicts.{hit, pass, accepted_none}
@@ -25,7 +26,6 @@ use Rattle.search.specs.Ranked.{nearest, plate_at, places, rows}
 use Rattle.search.specs.Calls.{code_in, distance_in, served, sat}
 use Rattle.search.proofs.Outcomes.{long_enough}
 use Rattle.short.specs.Short.{plate_rules, by_turns, five_of}
-use Rattle.short.specs.Short.{Numbered}
 use Rattle.short.proofs.Turns.{turns_all}
 
 module _ (xs : List ℕ) (plate out : ℕ) where
@@ -73,26 +73,23 @@ module _ {xs : List ℕ} (l : Library xs) (values : List ℤ) (fits : length val
       let p = rw (is_seated (length codes) (length distances) (omega (arith, h)) (omega (arith, k))) at e in
       (ap (λ o. o.codes) p ∙ one_row code_in codes h, ap (λ o. o.distances) p ∙ one_row distance_in distances k)
 
+  pub five_told : (codes distances : List ℕ) → length codes ≡ 5 → length distances ≡ 5 → {answer : image.Answer ℕ} {codes' distances' : List ℕ}
+      → handed answer codes' distances'
+      ≡ outcome (judge (sitting.plate_rules xs (length values) 5 (length codes) (length distances))) (sat xs values 5 codes distances) codes distances
+      → answer ≡ image.given (min 5 (count_of xs))
+  unfolding outcome
+  five_told codes distances h k e =
+      let p = rw (is_seated (length codes) (length distances) (omega (arith, h)) (omega (arith, k))) at e in
+      ap (λ o. o.answer) p
+
 -- ---- what is handed back
 
--- refused, all is as it was
-pub short_refused : (v : Verdict) (number : ℕ) (place : Place) (new out : List ℕ) {r : ℕ} → v ≡ refused number place → r ≡ number
-    → Numbered (image.outcome v new out) r out
-unfolding image.outcome
-short_refused v number place new out e s = rw e (record { is_number = s; is_out = refl })
-
--- else the five places stand in front, and the rest is as it was
-pub short_served : (v : Verdict) (fs : List Found) (codes distances out : List ℕ) {out' : List ℕ} → v ≡ accepted
+-- the five places stand in front, and the rest is as it was
+pub short_written : (fs : List Found) (codes distances out : List ℕ) {out' : List ℕ}
     → codes ≡ places 5 code_in fs → distances ≡ places 5 distance_in fs → length codes ≡ 5 → length distances ≡ 5 → 40 ≤ length out
-    → out' ≡ sets out 0 (by_turns codes distances) → Numbered (image.outcome v (five_of fs) out) 0 out'
-unfolding image.outcome
-short_served v fs codes distances out e p q h k room w =
+    → out' ≡ sets out 0 (by_turns codes distances) → (length (five_of fs) ≡ 40) × (out' ≡ five_of fs ++ drop (length (five_of fs)) out)
+short_written fs codes distances out p q h k room w =
     let long : length (by_turns codes distances) ≡ 40 = omega (arith, turns_all codes distances (k ∙ sym h), h) in
     let none_before : 0 + length (by_turns codes distances) ≡ length (by_turns codes distances) = omega arith in
-    rw (e, ← p, ← q)
-    (record { is_number = refl; is_out = w ∙ sets-eq (by_turns codes distances) out 0 (omega (arith, long)) ∙ ap (λ (n : ℕ). by_turns codes distances ++ drop n out) none_before })
-
--- rules that were passed before
-pub after_check : (v v' : Verdict) (new out : List ℕ) {number : ℕ} {out' : List ℕ} → Numbered (image.outcome v new out) number out' → v' ≡ v
-    → Numbered (image.outcome v' new out) number out'
-after_check v v' new out h e = rw e h
+    rw (← p, ← q)
+    (long, w ∙ sets-eq (by_turns codes distances) out 0 (omega (arith, long)) ∙ ap (λ (n : ℕ). by_turns codes distances ++ drop n out) none_before)

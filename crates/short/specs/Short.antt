@@ -28,6 +28,10 @@ by_turns (c ∷ codes) (d ∷ distances) = bytes32 c ++ bytes32 d ++ by_turns co
 abbrev pub five_of : List Found → List ℕ
 five_of fs = by_turns (places 5 code_in fs) (places 5 distance_in fs)
 
+-- over an accepted library, and on any bytes
+unfoldable pub served_of : (image plate out : List ℕ) → Outcome
+served_of xs plate out = outcome (judge (plate_rules xs (length plate) (length out))) (five_of (nearest xs 5 (wells_at plate 0 (wells_of xs)))) out
+
 unfoldable pub short_of : (image plate out : List ℕ) → Outcome
 short_of xs plate out = outcome (judge (short_rules xs (length plate) (length out))) (five_of (nearest xs 5 (wells_at plate 0 (wells_of xs)))) out
 

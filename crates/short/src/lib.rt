@@ -3,15 +3,11 @@
 
 ghost use Rattle.std.specs.Prelude.{◌≡◌, ◌*◌, ◌≤◌, length};
 ghost use Rattle.std.proofs.lemmas.List.Edits.{sets};
-ghost use Rattle.profile.specs.Bytes.{wells_at};
-ghost use Rattle.image.specs.Fields.{wells_of};
-ghost use Rattle.image.specs.Library.{Library};
-ghost use Rattle.image.specs.Verdict.{judge};
-ghost use Rattle.image.specs.Answer.{outcome};
-ghost use Rattle.search.specs.Ranked.{nearest};
-ghost use Rattle.short.specs.Short.{plate_rules, by_turns, five_of, Numbered, ShortGives};
+ghost use Rattle.image.specs.Answer.{handed};
+ghost use Rattle.short.specs.Short.{by_turns, served_of, short_of};
 
-use checker::Checked;
+use image::accepted::Accepted;
+use image::refusal::{Place, Refusal};
 
 // Codes and distances by turns.
 fn write(out: &mut [u8], codes: &[u32], distances: &[u32])
@@ -25,32 +21,31 @@ fn write(out: &mut [u8], codes: &[u32], distances: &[u32])
 }
 
 // Over an accepted library: rules 14 and 16, and then the five nearest.
-fn serve(image: &[u8], plate: &[u8], out: &mut [u8]) -> u32
-    requires { Library image.now }
-    ensures { Numbered (outcome (judge (plate_rules image.now (length plate.now) (length out.old))) (five_of (nearest image.now 5 (wells_at plate.now 0 (wells_of image.now)))) out.old) result out.new }
+fn serve(library: &Accepted<'_>, plate: &[u8], out: &mut [u8]) -> Result<usize, Refusal>
+    ensures { handed result out.new ≡ served_of library.now.records.image.now plate.now out.old }
 {
-    let wells = image::header::wells(image);
+    let wells = library.records.shape.wells;
     if plate.len() != 2 * wells {
-        return 14;
+        return Err(Refusal::Plate(Place::None));
     }
     if out.len() < 40 {
-        return 16;
+        return Err(Refusal::Room(Place::None));
     }
-    let mut values = [0i16; 16];
-    order::wells::read(plate, 0, wells, &mut values);
+    let mut room = [0i16; 16];
+    let values = &mut room[..wells];
+    order::wells::read(plate, 0, values);
     let mut codes = [0u32; 5];
     let mut distances = [0u32; 5];
-    search::sit::sit(image, &values[..wells], 5, &mut codes, &mut distances);
+    // one plate, five neighbours and room for five: nothing is refused
+    search::sit::sit(library, values, 5, &mut codes, &mut distances).unwrap();
     write(out, &codes, &distances);
-    0
+    Ok(40)
 }
 
-// The result is 0 or the refusal number.
-pub fn short(image: &[u8], plate: &[u8], out: &mut [u8]) -> u32
-    ensures { ShortGives image.now plate.now out.old result out.new }
+// Tells how many bytes it wrote.
+pub fn short(image: &[u8], plate: &[u8], out: &mut [u8]) -> Result<usize, Refusal>
+    ensures { handed result out.new ≡ short_of image.now plate.now out.old }
 {
-    match checker::check(image) {
-        Checked::Refused(refusal) => image::refusal::number(refusal) as u32,
-        Checked::Accepted => serve(image, plate, out),
-    }
+    let library = checker::accept(image)?;
+    serve(&library, plate, out)
 }

@@ -5,11 +5,10 @@ use Prim.Native.Nat.{ℕ, zero, suc, ◌≤◌, ◌<◌}
 use native.Mathlib.Omega.{arith}
 use lib.IntN.{ℤ, pos, negsuc, nat_abs}
 use lib.ListN.{get_or, drop}
-use mir.Syntax.{w16}
-use mir.Val.{SFits}
 use Rattle.profile.specs.Distance.{Wells, none, well}
 use Rattle.text.specs.Decimal.{decimal, signed_decimal}
 use Rattle.text.specs.Listing.{values_text}
+use Rattle.text.proofs.Decimals.{abs_16}
 use Rattle.text.proofs.Reading.{decimal_digits, decimal_injective, signed_injective}
 
 -- no byte comes before a minus
@@ -52,16 +51,12 @@ unfolding values_text
 values_behind [] s = omega arith
 values_behind (v ∷ vs) s = omega arith
 
-small : (z : ℤ) → SFits w16 z → nat_abs z < 4294967296
-small (pos n) f = omega (arith, f.sfits)
-small (negsuc n) f = omega (arith, f.sfits)
-
 pub values_end : {vs ws : List ℤ} {s t : List ℕ} → Wells vs → Wells ws → values_text vs ++ 10 ∷ s ≡ values_text ws ++ 10 ∷ t → (vs ≡ ws) × (s ≡ t)
 unfolding values_text
 values_end none none e = (refl, ap (drop 1) e)
 values_end none (well g w) e = absurd (omega (arith, ap (λ l. get_or l 0 0) e))
 values_end (well f v) none e = absurd (omega (arith, ap (λ l. get_or l 0 0) e))
 values_end (well {x} {xs = vs} f v) (well {x = y} {xs = ws} g w) e =
-    let first = signed_ends x y (small x f) (small y g) (values_behind vs _) (values_behind ws _) (simp append_assoc at (ap (drop 1) e)) in
+    let first = signed_ends x y (abs_16 x f) (abs_16 y g) (values_behind vs _) (values_behind ws _) (simp append_assoc at (ap (drop 1) e)) in
     let rest = values_end v w first.1 in
     (ap₂ ◌∷◌ first.0 rest.0, rest.1)

@@ -20,13 +20,13 @@ use Rattle.text.proofs.Decimals.{decimal_most, digits_most}
 -- a value of 16 bits takes six bytes at most, a level two
 value_most : (z : ℤ) → SFits w16 z → length (signed_decimal z) ≤ 6
 unfolding signed_decimal
-value_most (pos n) f = omega (arith, digits_most 4 n (omega arith) (omega (arith, f.sfits)))
-value_most (negsuc n) f = omega (arith, digits_most 4 (suc n) (omega arith) (omega (arith, f.sfits)))
+value_most (pos n) f = omega (arith, digits_most 5 n (omega arith) (omega (arith, f.sfits)) (omega (arith, f.sfits)))
+value_most (negsuc n) f = omega (arith, digits_most 5 (suc n) (omega arith) (omega (arith, f.sfits)) (omega (arith, f.sfits)))
 
 level_most : (byte : ℕ) → byte ≤ 21 → length (signed_decimal (level_of byte)) ≤ 2
 unfolding signed_decimal
-level_most zero h = omega (arith, digits_most 0 1 (omega arith) (omega arith))
-level_most (suc n) h = digits_most 1 n (omega arith) (omega arith)
+level_most zero h = omega (arith, digits_most 1 1 (omega arith) (omega arith) (omega arith))
+level_most (suc n) h = digits_most 2 n (omega arith) (omega arith) (omega arith)
 
 header_fits : (xs : List ℕ) → length (header_line xs) ≤ 68
 unfolding header_line

@@ -5,8 +5,6 @@ pub mod Ends
 pub mod Parts
 pub mod Fits
 pub mod Writes
-pub mod Digits
-pub mod Signs
 pub mod Calls
 pub mod Theorems
 pub mod Whole

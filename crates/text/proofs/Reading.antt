@@ -1,39 +1,18 @@
 -- Numbers in decimal, read back: two numbers of 32 bits with the same text are the same. Assumes nothing.
-use mathlib.Core.Path.{◌≡◌, sym, ◌∙◌, ap}
-use mathlib.Core.List.{List, [], ◌∷◌, ◌++◌, foldl, foldl-append}
-use Prim.Native.Nat.{ℕ, zero, suc, ◌+◌, ◌-◌, ◌*◌, ◌/◌, ◌%◌, ◌^◌, ◌≤◌, ◌<◌}
+use mathlib.Core.Path.{◌≡◌, sym, ◌∙◌}
+use mathlib.Core.List.{List, [], ◌∷◌, ◌++◌}
+use Prim.Native.Nat.{ℕ, zero, suc, ◌/◌, ◌%◌, ◌≤◌, ◌<◌}
 use native.Mathlib.Omega.{arith}
 use lib.IntN.{ℤ, pos, negsuc, nat_abs}
 use lib.ListN.{get_or}
+use lib.Signed.{mag}
+use Rattle.std.proofs.lemmas.Fmt as std
 use Rattle.ranking.proofs.Insert.{split}
 use Rattle.text.specs.Decimal.{digit, digits_in, decimal, signed_decimal}
-use Rattle.text.proofs.Decimals.{digits_one, digits_step}
-
--- the number that digits stand for, the first digit the highest
-unfoldable pub number_in : List ℕ → ℕ
-number_in digits = foldl (λ n c. 10 * n + (c - 48)) 0 digits
-
-number_one : (n : ℕ) → number_in (digit n ∷ []) ≡ n
-unfolding number_in
-number_one n = omega arith
-
-number_last : (digits : List ℕ) (d : ℕ) → number_in (digits ++ digit d ∷ []) ≡ 10 * number_in digits + d
-unfolding number_in
-number_last digits d = rw foldl-append (omega arith)
-
-digits_read : (most n : ℕ) → n < 10 ^ suc most → number_in (digits_in (suc most) n) ≡ n
-digits_read zero n h = rw (digits_one zero n h) (number_one n)
-digits_read (suc most) n h =
-    split n 10
-    (λ lt. rw (digits_one (suc most) n lt) (number_one n))
-    (λ ge. rw (digits_step (suc most) n ge) (omega (arith, number_last (digits_in (suc most) (n / 10)) (n % 10), digits_read most (n / 10) (omega arith))))
-
-pub decimal_read : (n : ℕ) → n < 4294967296 → number_in (decimal n) ≡ n
-unfolding decimal
-decimal_read n h = digits_read 9 n (omega arith)
+use Rattle.text.proofs.Decimals.{digits_one, digits_step, decimal_same, signed_same}
 
 pub decimal_injective : (m n : ℕ) → m < 4294967296 → n < 4294967296 → decimal m ≡ decimal n → m ≡ n
-decimal_injective m n h k e = sym (decimal_read m h) ∙ ap number_in e ∙ decimal_read n k
+decimal_injective m n h k e = std.decimal_injective m n (omega arith) (omega arith) (decimal_same m h ∙ e ∙ sym (decimal_same n k))
 
 -- ---- every byte of a number is a digit, so none is a space, a minus or a line feed
 
@@ -58,11 +37,9 @@ pub decimal_digits : (n i : ℕ) → Digit (get_or (decimal n) i 48)
 unfolding decimal
 decimal_digits n i = digits_are 10 n i
 
+mag_most : (z : ℤ) → mag z ≤ nat_abs z
+mag_most (pos n) = omega arith
+mag_most (negsuc n) = omega arith
+
 pub signed_injective : (x y : ℤ) → nat_abs x < 4294967296 → nat_abs y < 4294967296 → signed_decimal x ≡ signed_decimal y → x ≡ y
-unfolding signed_decimal
-signed_injective (pos m) (pos n) h k e = ap pos (decimal_injective m n h k e)
-signed_injective (pos m) (negsuc n) h k e = absurd (omega (arith, decimal_digits m 0, ap (λ l. get_or l 0 48) e))
-signed_injective (negsuc m) (pos n) h k e = absurd (omega (arith, decimal_digits n 0, ap (λ l. get_or l 0 48) e))
-signed_injective (negsuc m) (negsuc n) h k e =
-    let same : decimal (suc m) ≡ decimal (suc n) = cc in
-    ap negsuc (omega (arith, decimal_injective (suc m) (suc n) h k same))
+signed_injective x y h k e = std.signed_decimal_injective x y (omega (arith, mag_most x)) (omega (arith, mag_most y)) (signed_same x h ∙ e ∙ sym (signed_same y k))

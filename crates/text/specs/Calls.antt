@@ -4,7 +4,7 @@ use Rattle.image.specs.Verdict.{Verdict, accepted, refused, Rule, rule, when, ju
 use Rattle.image.specs.Answer.{Outcome, outcome, handed}
 use Rattle.checker.specs.Check.{check_rules, check_of}
 use Rattle.text.specs.Listing.{listing, refused_line}
-use Rattle.image.specs.declared.refusal.Answered.{Answered}
+use Rattle.image.specs.Answer.{Answered}
 
 -- 1 to 13 on the image, then 16: the room is shorter than 147,456 bytes, which is enough for every listing (`listing_fits`). Document 01 has no
 -- such call; document 02 names the number

@@ -1,89 +1,72 @@
-// The lines of a listing, written. Each function gives the place behind what it wrote.
-ghost use Rattle.std.specs.Prelude.{◌++◌, ◌+◌, ◌*◌, ◌≤◌, ◌<◌, length};
+// The lines of a listing, written.
+ghost use Rattle.std.specs.Prelude.{◌≤◌, ◌<◌, length};
 ghost use Rattle.profile.specs.Bytes.{wells_at};
-ghost use Rattle.image.specs.Fields.{count_of};
-ghost use Rattle.image.specs.Library.{Library};
-ghost use Rattle.text.specs.Decimal.{decimal};
+ghost use Rattle.text.specs.Cursor.{HasRoom, Appends};
 ghost use Rattle.text.specs.Written.{Written};
 ghost use Rattle.text.specs.Listing.{values_text, header_line, node_text, record_line, refused_line};
 
-const SPACE: u8 = 32;
+use crate::cursor::Cursor;
+use image::accepted::Accepted;
+use profile::source::{Profile, Stored};
 
-const FEED: u8 = 10;
-
-// A word and a number behind it.
-fn put_field(room: &mut [u8], at: usize, word: &[u8], n: u32) -> usize
-    requires { at + length (word.now ++ decimal n) ≤ length room.old }
-    ensures { Written room.old at (word.now ++ decimal n) result room.new }
+// Wells, metric, count, and the root's code.
+#[tactic(auto, using(crate::proofs::Writes::writing), unfolding(crate::specs::Listing::header_line))]
+pub fn put_header(out: &mut Cursor, library: &Accepted<'_>)
+    requires { HasRoom out.old (header_line library.now.records.image.now) }
+    ensures { Appends out.old (header_line library.now.records.image.now) out.new }
 {
-    let end = crate::word::put(room, at, word);
-    crate::number::put(room, end, n)
-}
-
-// Wells, metric, count, and the root's code, at the front.
-pub fn put_header(room: &mut [u8], image: &[u8]) -> usize
-    requires { Library image.now × (length (header_line image.now) ≤ length room.old) }
-    ensures { Written room.old 0 (header_line image.now) result room.new }
-{
-    let wells = put_field(room, 0, b"wells ", image::header::wells(image) as u32);
-    let metric = put_field(
-        room,
-        wells,
-        b" metric ",
-        image::header::metric(image) as u32,
-    );
-    let count = put_field(room, metric, b" count ", image::header::count(image) as u32);
-    let root = image::node::code(image, image::header::root(image));
-    let end = put_field(room, count, b" root ", root);
-    room[end] = FEED;
-    end + 1
+    let shape = library.records.shape;
+    out.put_field(b"wells ", shape.wells);
+    out.put_field(b" metric ", shape.metric.number());
+    out.put_field(b" count ", shape.count);
+    out.put_field(b" root ", library.records.code(library.root));
+    out.put(b"\n");
 }
 
 // A record's code, its parent's code, and its level.
-fn put_node(room: &mut [u8], at: usize, image: &[u8], i: usize) -> usize
-    requires { Library image.now × (i < count_of image.now) × (at + length (node_text image.now i) ≤ length room.old) }
-    ensures { Written room.old at (node_text image.now i) result room.new }
+#[tactic(auto, using(crate::proofs::Writes::writing), unfolding(crate::specs::Listing::node_text))]
+fn put_node(out: &mut Cursor, library: &Accepted<'_>, i: usize)
+    requires counted { i < library.now.records.shape.count }
+    requires room { HasRoom out.old (node_text library.now.records.image.now i) }
+    ensures { Appends out.old (node_text library.now.records.image.now i) out.new }
 {
-    let code = crate::number::put(room, at, image::node::code(image, i));
-    room[code] = SPACE;
-    let above = image::node::code(image, image::node::parent(image, i));
-    let parent = crate::number::put(room, code + 1, above);
-    room[parent] = SPACE;
-    crate::number::put_signed(room, parent + 1, image::node::level(image, i) as i16)
+    let records = library.records;
+    out.put_number(records.code(i));
+    out.put_field(b" ", records.code(records.parent(i)));
+    out.put_field(b" ", records.level(i));
 }
 
-// The values of the profile that stands at `from`, each behind a space.
-fn put_values(room: &mut [u8], at: usize, image: &[u8], from: usize, wells: usize) -> usize
-    requires { (wells ≤ 16) × (from + 2 * wells ≤ length image.now) × (at + length (values_text (wells_at image.now from wells)) ≤ length room.old) }
-    ensures { Written room.old at (values_text (wells_at image.now from wells)) result room.new }
+// The values of a profile, each behind a space.
+#[tactic(auto, using(crate::proofs::Writes::writing))]
+fn put_values(out: &mut Cursor, profile: &Stored<'_>)
+    requires { HasRoom out.old (values_text (wells_at profile.now.image.now profile.now.at profile.now.wells)) }
+    ensures { Appends out.old (values_text (wells_at profile.now.image.now profile.now.at profile.now.wells)) out.new }
 {
-    let mut end = at;
-    for i in 0..wells {
-        room[end] = SPACE;
-        end = crate::number::put_signed(room, end + 1, profile::well::read(image, from + 2 * i));
+    for i in 0..profile.wells {
+        out.put_field(b" ", profile.well(i));
     }
-    end
 }
 
 // The line of a record.
-pub fn put_record(room: &mut [u8], at: usize, image: &[u8], i: usize) -> usize
-    requires { Library image.now × (i < count_of image.now) × (at + length (record_line image.now i) ≤ length room.old) }
-    ensures { Written room.old at (record_line image.now i) result room.new }
+#[tactic(auto, using(crate::proofs::Writes::writing), unfolding(crate::specs::Listing::record_line, image::specs::Fields::profile_at))]
+pub fn put_record(out: &mut Cursor, library: &Accepted<'_>, i: usize)
+    requires counted { i < library.now.records.shape.count }
+    requires room { HasRoom out.old (record_line library.now.records.image.now i) }
+    ensures { Appends out.old (record_line library.now.records.image.now i) out.new }
 {
-    let node = put_node(room, at, image, i);
-    let wells = image::header::wells(image);
-    let from = image::node::profile_start(image::header::count(image), wells, i);
-    let end = put_values(room, node, image, from, wells);
-    room[end] = FEED;
-    end + 1
+    put_node(out, library, i);
+    put_values(out, &library.records.profile(i));
+    out.put(b"\n");
 }
 
-// `refused` and a number, at the front.
+// `refused` and a number, at the front of a room.
+#[tactic(auto, using(crate::proofs::Writes::writing), unfolding(crate::specs::Listing::refused_line))]
 pub fn put_refused(room: &mut [u8], number: u32) -> usize
     requires { length (refused_line number) ≤ length room.old }
     ensures { Written room.old 0 (refused_line number) result room.new }
 {
-    let end = put_field(room, 0, b"refused ", number);
-    room[end] = FEED;
-    end + 1
+    let mut out = Cursor { room, end: 0 };
+    out.put_field(b"refused ", number);
+    out.put(b"\n");
+    out.end
 }

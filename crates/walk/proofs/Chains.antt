@@ -1,17 +1,21 @@
 -- Each record's children as a chain: a record put in front of one, and the tree that hangs by the chains. Assumes nothing.
-use mathlib.Core.Path.{◌≡◌, refl, sym, ap, ◌∙◌, transport}
+use mathlib.Core.Path.{◌≡◌, refl, sym, ap, ◌∙◌}
 use mathlib.Core.Logic.{◌≢◌}
 use mathlib.Core.Bool.{Bool, true, false, and-false}
 use mathlib.Core.List.{List, ◌∷◌}
 use Prim.Native.Nat.{ℕ, zero, suc, ◌+◌, ◌≤◌, ◌<◌}
 use native.Mathlib.Omega.{arith}
 use lib.Dec.{eqb}
-use lib.ListN.{length, get_or, take, drop, set, replicate, length-set, get_or-replicate}
-use lib.Seq.{get_or-set_same, get_or-set_other, get_or-take, take-set-lt, take-set-le, drop-set-lt, drop-set-add}
+use lib.ListN.{length, get_or, set, replicate, length-map, length-replicate, get_or-replicate}
+use lib.Seq.{get_or-set_same, get_or-set_other, map-set}
+use Rattle.std.proofs.Math.Seq.{map-set_same}
+use Rattle.std.proofs.lemmas.List.{get_or-map}
 use borrow.Author.Tests.{eqb-true, eqb-false, eq-eqb, ne_eqb, lt-ltb}
 use Rattle.image.specs.Fields.{count_of, root_of, parent_at}
 use Rattle.walk.specs.Forest.{Forest, grow, is_child, children_from, siblings, below_of}
-use Rattle.walk.specs.Links.{Chain, Linked, Links, chained, linked_below}
+use Rattle.walk.specs.Links.{Chain, first_in, next_in, Linked, chained, linked_below}
+use Rattle.walk.specs.declared.links.Link.{Link}
+use Rattle.walk.specs.declared.links.Links.{Links}
 
 -- ---- chains
 
@@ -63,90 +67,92 @@ module _ (xs : List ℕ) (v i : ℕ) where
   own_child below e = rw (eq-eqb (parent_at xs i) v e, ne_eqb i (root_of xs) below)
 
 -- no record is linked yet
-linked_none : (xs first next : List ℕ) (count : ℕ) → first ≡ replicate 1024 1024 → length next ≡ 1024 → count ≡ count_of xs → Linked xs first next count
+pub linked_none : {xs : List ℕ} {links : List Links} {none : Links} {count : ℕ} → links ≡ replicate 1024 none → none.child.0 ≡ 1024 → count ≡ count_of xs
+    → Linked xs links count
 unfolding children_from
-linked_none xs first next count e long all = record { first_long = ap length e; next_long = long; chain = onward }
+linked_none {xs} {links} {none} {count} e is_none all = record { long = long; chain = onward }
   where
-    onward : (v many : ℕ) → v < 1024 → count + many ≡ count_of xs → Chain next count (get_or first v 0) (children_from xs v count many)
-    onward v zero h k = rw (e, get_or-replicate {A = ℕ} 1024 v 1024 0 h) Chain.stop
+    long : length links ≡ 1024
+    long = ap length e ∙ length-replicate {A = Links} 1024 none
+
+    first : (v : ℕ) → v < 1024 → get_or (first_in links) v 0 ≡ 1024
+    first v h =
+        get_or-map (λ (l : Links). l.child.0) links v none 0 (omega (arith, long))
+        ∙ ap (λ (l : Links). l.child.0) (ap (λ (ls : List Links). get_or ls v none) e ∙ get_or-replicate {A = Links} 1024 v none none h)
+        ∙ is_none
+
+    onward : (v many : ℕ) → v < 1024 → count + many ≡ count_of xs → Chain (next_in links) count (get_or (first_in links) v 0) (children_from xs v count many)
+    onward v zero h k = rw (first v h) Chain.stop
     onward v (suc many) h k = absurd (omega arith)
 
-module _ {xs first next : List ℕ} (i : ℕ) (here : i < count_of xs) (linked : Linked xs first next (suc i)) where
-  linked_root : i ≡ root_of xs → Linked xs first next i
-  linked_root e = record { first_long = linked.first_long; next_long = linked.next_long; chain = onward }
+module _ {xs : List ℕ} {links : List Links} (i : ℕ) (here : i < count_of xs) (linked : Linked xs links (suc i)) where
+  pub linked_root : i ≡ root_of xs → Linked xs links i
+  linked_root e = record { long = linked.long; chain = onward }
     where
-      onward : (v many : ℕ) → v < 1024 → i + many ≡ count_of xs → Chain next i (get_or first v 0) (children_from xs v i many)
+      onward : (v many : ℕ) → v < 1024 → i + many ≡ count_of xs → Chain (next_in links) i (get_or (first_in links) v 0) (children_from xs v i many)
       onward v zero h k = absurd (omega arith)
       onward v (suc many) h k =
           rw (children_less xs v i many (root_child xs v i e)) (chain_from (omega arith) (linked.chain v many h (omega arith)))
 
   -- a record goes in front of its parent's children
   module _ (parent : ℕ) (own : parent ≡ parent_at xs i) (below : i ≢ root_of xs) (small : i < 1024) (within : parent < 1024) where
-    kept : (v many : ℕ) → v < 1024 → i + suc many ≡ count_of xs
-        → Chain (set next i (get_or first parent 0)) (suc i) (get_or first v 0) (children_from xs v (suc i) many)
-    kept v many h k = chain_kept i (get_or first parent 0) (omega arith) (linked.chain v many h (omega arith))
+    first_long : length (first_in links) ≡ 1024
+    first_long = length-map links (λ (l : Links). l.child.0) ∙ linked.long
+
+    next_long : length (next_in links) ≡ 1024
+    next_long = length-map links (λ (l : Links). l.sibling.0) ∙ linked.long
+
+    abbrev next : List ℕ
+    next = set (next_in links) i (get_or (first_in links) parent 0)
+
+    kept : (v many : ℕ) → v < 1024 → i + suc many ≡ count_of xs → Chain next (suc i) (get_or (first_in links) v 0) (children_from xs v (suc i) many)
+    kept v many h k = chain_kept i (get_or (first_in links) parent 0) (omega arith) (linked.chain v many h (omega arith))
 
     in_front : (v many : ℕ) → v < 1024 → i + suc many ≡ count_of xs → (t : Bool) → eqb parent v ≡ t
-        → Chain (set next i (get_or first parent 0)) i (get_or (set first parent i) v 0) (children_from xs v i (suc many))
+        → Chain next i (get_or (set (first_in links) parent i) v 0) (children_from xs v i (suc many))
     in_front v many h k true q =
         let e : v ≡ parent = sym (eqb-true parent v q) in
-        rw (e, children_more xs parent i many (own_child xs parent i below (sym own)), get_or-set_same first parent i 0 (omega (arith, linked.first_long)))
+        rw (e, children_more xs parent i many (own_child xs parent i below (sym own)), get_or-set_same (first_in links) parent i 0 (omega (arith, first_long)))
         (Chain.link {low = i} {c = i} {cs = children_from xs parent (suc i) many} (omega arith) small
-        (rw (get_or-set_same next i (get_or first parent 0) 0 (omega (arith, linked.next_long))) (kept parent many within k)))
+        (rw (get_or-set_same (next_in links) i (get_or (first_in links) parent 0) 0 (omega (arith, next_long))) (kept parent many within k)))
     in_front v many h k false q =
         let other = eqb-false parent v q in
-        rw (children_less xs v i many (other_child xs v i (λ e. other (own ∙ e))), get_or-set_other first parent v i 0 (λ e. other (sym e)))
+        rw (children_less xs v i many (other_child xs v i (λ e. other (own ∙ e))), get_or-set_other (first_in links) parent v i 0 (λ e. other (sym e)))
         (chain_from (omega arith) (kept v many h k))
 
-    linked_child : Linked xs (set first parent i) (set next i (get_or first parent 0)) i
-    linked_child = record {
-      first_long = length-set first parent i ∙ linked.first_long;
-      next_long = length-set next i (get_or first parent 0) ∙ linked.next_long;
-      chain = onward;
-    }
+    pub linked_by : {links' : List Links} → length links' ≡ length links → first_in links' ≡ set (first_in links) parent i → next_in links' ≡ next → Linked xs links' i
+    linked_by {links'} long is_first is_next = record { long = long ∙ linked.long; chain = rw (is_first, is_next) onward }
       where
-        onward : (v many : ℕ) → v < 1024 → i + many ≡ count_of xs
-            → Chain (set next i (get_or first parent 0)) i (get_or (set first parent i) v 0) (children_from xs v i many)
+        onward : (v many : ℕ) → v < 1024 → i + many ≡ count_of xs → Chain next i (get_or (set (first_in links) parent i) v 0) (children_from xs v i many)
         onward v zero h k = absurd (omega arith)
         onward v (suc many) h k = in_front v many h k (eqb parent v) refl
 
--- ---- both in one slice
+-- a record's next sibling is stored, and then its parent's first child
+module _ (links : List Links) (i parent : ℕ) (none : Links) (own : Link) (low : parent < length links) where
+  abbrev behind : List Links
+  behind = set links i (record { child = (get_or links i none).child; sibling = (get_or links parent none).child })
 
-pub links_none : (xs links : List ℕ) (count : ℕ) → links ≡ replicate 2048 1024 → count ≡ count_of xs → Links xs links count
-links_none xs links count e all = record {
-  long = ap length e;
-  linked = linked_none xs (take 1024 links) (drop 1024 links) count (ap (take 1024) e) (ap (λ (l : List ℕ). length (drop 1024 l)) e) all;
-}
+  abbrev hung : List Links
+  hung = set behind parent (record { child = own; sibling = (get_or behind parent none).sibling })
 
-module _ {xs links : List ℕ} (i : ℕ) (here : i < count_of xs) (l : Links xs links (suc i)) where
-  pub links_root : i ≡ root_of xs → Links xs links i
-  links_root e = record { long = l.long; linked = linked_root i here l.linked e }
+  pub hung_first : first_in hung ≡ set (first_in links) parent own.0
+  hung_first =
+      map-set (λ (l : Links). l.child.0) behind parent _
+      ∙ ap (λ (firsts : List ℕ). set firsts parent own.0) (map-set_same (λ (l : Links). l.child.0) links i _ none refl)
 
-  pub links_child : (parent : ℕ) → parent ≡ parent_at xs i → i ≢ root_of xs → i < 1024 → parent < 1024
-      → Links xs (set (set links (1024 + i) (get_or links parent 0)) parent i) i
-  links_child parent own below small within = record {
-    long = length-set (set links (1024 + i) (get_or links parent 0)) parent i ∙ length-set links (1024 + i) (get_or links parent 0) ∙ l.long;
-    linked = transport (λ t. Linked xs (front t) (back t) i) (linked_child i here l.linked parent own below small within);
-  }
-    where
-      front : set (take 1024 links) parent i ≡ take 1024 (set (set links (1024 + i) (get_or links parent 0)) parent i)
-      front =
-          sym (take-set-lt 1024 (set links (1024 + i) (get_or links parent 0)) parent i within
-          ∙ ap (λ (m : List ℕ). set m parent i) (take-set-le 1024 links (1024 + i) (get_or links parent 0) (omega arith)))
-
-      back : set (drop 1024 links) i (get_or (take 1024 links) parent 0) ≡ drop 1024 (set (set links (1024 + i) (get_or links parent 0)) parent i)
-      back =
-          sym (drop-set-lt 1024 (set links (1024 + i) (get_or links parent 0)) parent i within
-          ∙ drop-set-add 1024 links i (get_or links parent 0)
-          ∙ ap (set (drop 1024 links) i) (sym (get_or-take 1024 links parent 0 within)))
+  pub hung_next : next_in hung ≡ set (next_in links) i (get_or (first_in links) parent 0)
+  hung_next =
+      map-set_same (λ (l : Links). l.sibling.0) behind parent _ none refl
+      ∙ map-set (λ (l : Links). l.sibling.0) links i _
+      ∙ ap (set (next_in links) i) (sym (get_or-map (λ (l : Links). l.child.0) links parent none 0 low))
 
 -- ---- what hangs below a record by the links is what hangs below it
 
-pub linked_below_lem : {xs first next : List ℕ} → Linked xs first next 0 → (generations v : ℕ) → v < 1024
-    → linked_below first next generations v ≡ below_of generations xs v
+pub linked_below_lem : {xs : List ℕ} {links : List Links} → Linked xs links 0 → (generations v : ℕ) → v < 1024
+    → linked_below links generations v ≡ below_of generations xs v
 unfolding linked_below below_of
 linked_below_lem linked zero v h = refl
-linked_below_lem {xs} {first} {next} linked (suc generations) v h =
+linked_below_lem {xs} {links} linked (suc generations) v h =
     let chain = linked.chain v (count_of xs) h (omega arith) in
     rw (chain_is 1024 (omega arith) chain)
-    (chain_siblings (linked_below first next generations) (below_of generations xs) (linked_below_lem linked generations) chain)
+    (chain_siblings (linked_below links generations) (below_of generations xs) (linked_below_lem linked generations) chain)

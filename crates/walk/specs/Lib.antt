@@ -5,3 +5,4 @@ pub mod Weighed
 pub mod Measured
 pub mod Links
 pub mod LaidOut
+pub mod Meeting

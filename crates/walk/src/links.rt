@@ -1,24 +1,54 @@
-// Each record's children in file order, as links: a record's first child stands at its number, and its next sibling 1,024 places behind.
-ghost use Rattle.std.specs.Prelude.{◌≡◌};
-ghost use Rattle.image.specs.Fields.{count_of, root_of};
-ghost use Rattle.image.specs.Library.{Library};
-ghost use Rattle.walk.specs.Links.{Links};
+// Each record's children in file order, as links.
+ghost use Rattle.std.specs.Prelude.{◌≡◌, ◌<◌, ◌≤◌, MatchOption};
+ghost use Rattle.walk.specs.Links.{Linked};
 
-// The records are taken from the last to the first, and each goes in front of its parent's children. 1,024 stands for no record, and is
-// what the links hold before.
-pub fn link(image: &[u8], count: usize, root: usize, links: &mut [u16])
-    requires library { Library image.now }
-    requires count_value { (count ≡ count_of image.now) × (root ≡ root_of image.now) }
-    requires links { Links image.now links.old count }
-    ensures { Links image.now links.new 0 }
+use image::accepted::Accepted;
+
+// A record's number, or none. An Option takes four bytes in place of two, and then a sitting would need more stack than a call has.
+#[derive(Clone, Copy)]
+pub struct Link(u16);
+
+impl Link {
+    pub const NONE: Link = Link(1024);
+
+    fn to(node: usize) -> Link
+        requires { node < 1024 }
+        ensures { result.0 ≡ node }
+    {
+        Link(node as u16)
+    }
+
+    pub fn node(self) -> Option<usize>
+        ensures { MatchOption result (1024 ≤ self.0) (λ n. (n ≡ self.0) × (n < 1024)) }
+    {
+        let node = usize::from(self.0);
+        if node < 1024 { Some(node) } else { None }
+    }
+}
+
+#[derive(Clone, Copy)]
+pub struct Links {
+    pub child: Link, // its first child
+    pub sibling: Link, // the next child of its parent
+}
+
+impl Links {
+    pub const NONE: Links = Links {
+        child: Link::NONE,
+        sibling: Link::NONE,
+    };
+}
+
+// The records are taken from the last to the first, and each goes in front of its parent's children.
+pub fn hang(library: &Accepted, links: &mut [Links])
+    requires { Linked library.now.records.image.now links.old library.now.records.shape.count }
+    ensures { Linked library.now.records.image.now links.new 0 }
 {
-    let mut i = count;
-    while 0 < i {
-        i -= 1;
-        if i != root {
-            let parent = image::node::parent(image, i);
-            links[1024 + i] = links[parent];
-            links[parent] = i as u16;
+    for i in (0..library.records.shape.count).rev() {
+        if i != library.root {
+            let parent = library.records.parent(i);
+            links[i].sibling = links[parent].child;
+            links[parent].child = Link::to(i);
         }
     }
 }

@@ -2,4 +2,3 @@
 pub mod Stores
 pub mod Heads
 pub mod Wells
-pub mod Moves

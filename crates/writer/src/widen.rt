@@ -2,14 +2,10 @@
 ghost use Rattle.std.specs.Prelude.{◌+◌, ◌≤◌, length};
 ghost use Rattle.writer.specs.Moved.{Moved};
 
-// The bytes from `from` to `upto`, the last first, as they overlap where they go.
+// The bytes from `from` to `upto`.
 pub fn widen(buffer: &mut [u8], from: usize, upto: usize)
     requires { (from ≤ upto) × (upto + 8 ≤ length buffer.old) }
     ensures { Moved buffer.old buffer.new from upto }
 {
-    let mut i = upto;
-    while from < i {
-        i -= 1;
-        buffer[i + 8] = buffer[i];
-    }
+    buffer.copy_within(from..upto, from + 8);
 }

@@ -1,48 +1,24 @@
 -- How the answers of `kwb_pair_row` follow. Assumes nothing.
-use mathlib.Core.Path.{◌≡◌, sym, ◌∙◌}
-use Prim.Native.Nat.{◌+◌, ◌-◌, ◌*◌, ◌≤◌}
-use native.Mathlib.Nat.{sub-zero}
+use mathlib.Core.Path.{◌≡◌, ◌∙◌}
 use native.Mathlib.Omega.{arith}
-use lib.ListN.{length}
-use Rattle.bench.proofs.Rows.{pair_row, step_within, step_on, row_end, row_found, row_on}
+use borrow.Author.Rules.{rules}
+use Rattle.profile.specs.Bytes.{wells_at}
+use Rattle.profile.specs.Metric.{metric_number}
+use Rattle.profile.proofs.Reading.{wells_length}
+use Rattle.profile.proofs.Distances.{distance_symmetric, distance_other}
+use Rattle.bench.specs.Row.{first_under}
+use Rattle.bench.proofs.Rows.{row, same_row}
 use Rattle.bench.proofs.kwb_pair_row.Goals as goal
-use Rattle.bench.proofs.kwb_pair_row.Goals.{After-distance-d, In-loop}
 
--- the next profile lies within the bytes
-room : (c : In-loop)
-    → c.loop.p + 2 * c.args.wells ≤ length c.args.image.now
-room c =
+pub written_out-requires : goal.written_out-requires
+written_out-requires c = (omega arith, wells_length _ _ _, omega arith)
+
+pub returns-in-Ok : goal.returns-in-Ok
+returns-in-Ok c =
     let a = c.args in
-    omega (arith, step_within c.loop.counter a.count (2 * a.wells) (length a.image.now - a.from) (omega arith) (omega arith))
+    let other_way : c.written_out.result ≡ first_under (row (metric_number c.in-Ok.metric) a.image.now a.from a.wells (wells_at a.image.now a.at a.wells)) a.limit 0 a.count
+    = search rules in
+    rw (← c.in-Ok.ensures) (other_way ∙ same_row _ _ _ _ _ (λ j. distance_symmetric _ _ _))
 
--- the distance measured is the next of the row
-next : (c : After-distance-d)
-    → let a = c.args in c.distance-d.result ≡ pair_row a.metric a.image.now a.at a.from a.wells c.loop.counter
-next c = rw c.loop.invariant.1 at c.distance-d.ensures.exact
-
-pub loop-init : goal.loop-init
-loop-init c = (omega arith, omega arith, rw sub-zero)
-
-pub distance-d-requires : goal.distance-d-requires
-distance-d-requires c = omega (arith, room c)
-
-pub returns-then-d-limit : goal.returns-then-d-limit
-returns-then-d-limit c =
-    let a = c.args in
-    sym (row_found (pair_row a.metric a.image.now a.at a.from a.wells) a.limit c.loop.counter a.count (omega arith) _ (next (goal.at.returns-then-d-limit c).After-distance-d) c.if-d-limit.true) ∙ c.loop.invariant.2
-
-pub overflow_add-p : goal.overflow_add-p
-overflow_add-p c = record { fits = omega (arith, room (goal.at.overflow_add-p c).In-loop) }
-
-pub loop-preserved : goal.loop-preserved
-loop-preserved c =
-    let a = c.args in (
-      omega arith,
-      omega (arith, step_on c.loop.counter (2 * a.wells)),
-      sym (row_on (pair_row a.metric a.image.now a.at a.from a.wells) a.limit c.loop.counter a.count (omega arith) _ (next (goal.at.loop-preserved c).After-distance-d) c.if-d-limit.false) ∙ c.loop.invariant.2,
-    )
-
-pub returns : goal.returns
-returns c =
-    let a = c.args in
-    sym (row_end (pair_row a.metric a.image.now a.at a.from a.wells) a.limit c.loop.counter a.count (omega arith)) ∙ c.loop.invariant.2
+pub returns-in-Err : goal.returns-in-Err
+returns-in-Err c = c.no_metric_row.ensures ∙ same_row _ _ _ _ _ (λ j. distance_other _ _ _ c.in-Err.ensures.1 c.in-Err.ensures.2)

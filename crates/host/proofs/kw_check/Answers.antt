@@ -1,11 +1,11 @@
--- `kw_check` meets its contract: the case that was matched is the verdict. Assumes nothing.
-use mathlib.Core.Path.{sym, ◌∙◌, ap}
-use Rattle.checker.specs.Check.{answer_of}
+-- `kw_check` meets its contract. Assumes nothing.
+use mathlib.Core.Path.{◌∙◌, ap}
+use borrow.Author.Rules.{rules}
 use Rattle.host.specs.Word.{verdict_word}
+use Rattle.host.proofs.Answers.{worded, verdict_told}
 use Rattle.host.proofs.kw_check.Goals as goal
 
-pub returns-in-Accepted : goal.returns-in-Accepted
-returns-in-Accepted c = ap verdict_word (sym (ap answer_of c.in-Accepted.is) ∙ c.check.ensures)
-
-pub returns-in-Refused : goal.returns-in-Refused
-returns-in-Refused c = c.refusal.ensures ∙ ap verdict_word (sym (ap answer_of c.in-Refused.is) ∙ c.check.ensures)
+pub returns : goal.returns
+returns c =
+    let r = c.check.result in
+    worded (λ t. 0) (λ x y p. search rules) r _ c.map.ensures.cases c.answer.ensures.given c.answer.ensures.denied ∙ verdict_told r ∙ ap verdict_word c.check.ensures

@@ -1,7 +1,10 @@
 -- `kw_file` meets its contract. Assumes nothing.
+use borrow.Author.Rules.{rules}
 use Rattle.host.specs.Word.{first}
-use Rattle.host.proofs.Answers.{wrote}
+use Rattle.host.proofs.Answers.{worded, wrote}
 use Rattle.host.proofs.kw_file.Goals as goal
 
 pub returns : goal.returns
-returns c = wrote first c.file.result _ _ c.file.ensures c.answered.ensures
+returns c =
+    let r = c.file.result in
+    wrote first r _ _ c.file.ensures (worded first (λ x y p. search rules) r _ c.map.ensures.cases c.answer.ensures.given c.answer.ensures.denied)

@@ -1,7 +1,10 @@
 -- `kw_start` meets its contract. Assumes nothing.
+use borrow.Author.Rules.{rules}
 use Rattle.host.specs.Word.{first}
-use Rattle.host.proofs.Answers.{wrote}
+use Rattle.host.proofs.Answers.{worded, wrote}
 use Rattle.host.proofs.kw_start.Goals as goal
 
 pub returns : goal.returns
-returns c = wrote first c.start.result _ _ c.start.ensures c.answered.ensures
+returns c =
+    let r = c.start.result in
+    wrote first r _ _ c.start.ensures (worded first (λ x y p. search rules) r _ c.map.ensures.cases c.answer.ensures.given c.answer.ensures.denied)

@@ -1,57 +1,63 @@
 -- `serve` meets its contract: rules 14 and 16, and then a sitting of one plate, written by turns. Assumes nothing.
-use mathlib.Core.Path.{◌≡◌, refl, sym, ◌∙◌, ap}
-use mathlib.Core.List.{List}
+use mathlib.Core.Path.{◌≡◌, refl, ◌∙◌, ap}
 use Prim.Native.Nat.{◌*◌, ◌<◌, ◌≤◌}
 use native.Mathlib.Omega.{arith}
-use lib.IntN.{ℤ}
-use lib.ListN.{length, take, replicate}
-use lib.Seq.{length-take-le, take_at}
+use mathlib.Core.List.{List}
+use lib.IntN.{ℤ, pos}
+use lib.ListN.{length, replicate}
+use lib.Seq.{length-take-le}
+use Rattle.search.specs.Ranked.{nearest, places}
+use Rattle.search.specs.Calls.{code_in, distance_in}
 use Rattle.profile.specs.Bytes.{wells_at}
 use Rattle.profile.proofs.Reading.{wells_length}
 use Rattle.image.specs.declared.refusal.Place.{Place}
+use Rattle.image.specs.declared.refusal.Refusal.TheVariants.{Plate, Room}
 use Rattle.image.specs.Fields.{wells_of}
-use Rattle.search.specs.Ranked.{nearest, places}
-use Rattle.search.specs.Calls.{code_in, distance_in}
-use Rattle.order.proofs.Profiles.{read_fits}
-use Rattle.short.proofs.Serves.{plate_unfit, room_unfit, both_fit, five, short_refused, short_served}
+use Rattle.image.proofs.Answers.{given_ok}
+use Rattle.image.proofs.Outcomes.{when_refused, when_given}
+use Rattle.short.specs.Short.{served_of}
+use Rattle.short.proofs.Serves.{plate_unfit, room_unfit, both_fit, five, five_told, short_written}
 use Rattle.short.proofs.serve.Goals as goal
-use Rattle.short.proofs.serve.Goals.{After-read, Else-plate-wells}
+use Rattle.short.proofs.serve.Goals.{After-sit, Else-plate-wells}
 
 -- past rule 14
-fits : (c : Else-plate-wells) → length c.args.plate.now ≡ 2 * wells_of c.args.image.now
-fits c = omega (arith, c.if-plate-wells.false, c.wells-wells.ensures.0)
+fits : (c : Else-plate-wells) → length c.args.plate.now ≡ 2 * wells_of c.args.library.now.records.image.now
+fits c = omega (arith, c.if-plate-wells.false, c.args.library.now.is_wells)
 
 -- the plate was read
-plate-read : (c : After-read) → take c.wells-wells.result c.read.new.profile ≡ wells_at c.args.plate.now 0 (wells_of c.args.image.now)
+plate-read : (c : After-sit) → c.read.new.profile ≡ wells_at c.args.plate.now 0 (wells_of c.args.library.now.records.image.now)
 plate-read c =
-    let plate = c.args.plate.now in let wells = c.wells-wells in
-    ap (take wells.result) c.read.ensures ∙ take_at (wells_at plate 0 wells.result) _ wells.result (wells_length plate 0 wells.result) ∙ ap (wells_at plate 0) wells.ensures.0
+    c.read.ensures ∙ ap (wells_at c.args.plate.now 0) (length-take-le _ _ few ∙ c.args.library.now.is_wells)
+  where
+    few : c.args.library.now.records.shape.wells ≤ length {A = ℤ} (replicate 16 (pos 0))
+    few = omega (arith, c.args.library.now.records.shape.wells_high)
 
 pub returns-then-plate-wells : goal.returns-then-plate-wells
-returns-then-plate-wells c = short_refused _ 14 Place.None _ _ (plate_unfit _ _ _ (λ e. c.if-plate-wells.true (omega (arith, e, c.wells-wells.ensures.0)))) refl
+unfolding served_of
+returns-then-plate-wells c = when_refused _ (Plate Place.None) _ _ (plate_unfit _ _ _ (λ e. c.if-plate-wells.true (omega (arith, e, c.args.library.now.is_wells))))
 
 pub returns-then-out-lt40 : goal.returns-then-out-lt40
+unfolding served_of
 returns-then-out-lt40 c =
     let few : length c.args.out.now < 40 = omega arith in
-    short_refused _ 16 Place.None _ _ (room_unfit _ _ _ (fits (goal.at.returns-then-out-lt40 c).Else-plate-wells) few) refl
+    when_refused _ (Room Place.None) _ _ (room_unfit _ _ _ (fits (goal.at.returns-then-out-lt40 c).Else-plate-wells) few)
 
-pub read-requires : goal.read-requires
-read-requires c = let few = c.requires.layout.wells.1 in let w = c.wells-wells.ensures.0 in (omega (arith, few, w), omega (arith, few, w), omega (arith, c.if-plate-wells.false))
-
-pub slice_bounds-values-end : goal.slice_bounds-values-end
-slice_bounds-values-end c = read_fits _ _ _ _ c.read.ensures
-
-pub slice_bounds-sit-end : goal.slice_bounds-sit-end
-slice_bounds-sit-end c = sym (length-take-le _ _ (read_fits _ _ _ _ c.read.ensures))
-
-pub write-requires : goal.write-requires
-write-requires c = (c.sit.auto.distances ∙ sym c.sit.auto.codes, omega (arith, c.sit.auto.codes, c.if-out-lt40.false))
+pub unwrap-requires : goal.unwrap-requires
+unwrap-requires c =
+    let same = plate-read (goal.at.unwrap-requires c).After-sit in
+    let l = c.args.library.now.library in
+    let told = five_told l _ (ap length same ∙ wells_length _ 0 (wells_of c.args.library.now.records.image.now)) (replicate 5 0) (replicate 5 0) refl refl c.sit.ensures in
+    rw (given_ok _ told) refl
 
 pub returns : goal.returns
+unfolding served_of
 returns c =
-    let image = c.args.image.now in
+    let image = c.args.library.now.records.image.now in
     let room : 40 ≤ length c.args.out.now = omega arith in
-    let same = plate-read (goal.at.returns c).After-read in
-    let found = five c.requires _ (ap length same ∙ wells_length _ 0 (wells_of image)) (replicate 5 0) (replicate 5 0) refl refl c.sit.ensures in
-    short_served _ _ _ _ _ (both_fit _ _ _ (fits (goal.at.returns c).Else-plate-wells) room) (found.0 ∙ ap (λ (v : List ℤ). places 5 code_in (nearest image 5 v)) same)
-    (found.1 ∙ ap (λ (v : List ℤ). places 5 distance_in (nearest image 5 v)) same) c.sit.auto.codes c.sit.auto.distances room c.write.ensures
+    let same = plate-read (goal.at.returns c).After-sit in
+    let l = c.args.library.now.library in
+    let found = five l _ (ap length same ∙ wells_length _ 0 (wells_of image)) (replicate 5 0) (replicate 5 0) refl refl c.sit.ensures in
+    let wrote =
+    short_written _ _ _ _ (found.0 ∙ ap (λ (v : List ℤ). places 5 code_in (nearest image 5 v)) same)
+    (found.1 ∙ ap (λ (v : List ℤ). places 5 distance_in (nearest image 5 v)) same) c.sit.auto.codes c.sit.auto.distances room c.write.ensures in
+    when_given _ _ _ _ _ (both_fit _ _ _ (fits (goal.at.returns c).Else-plate-wells) room) wrote.0 wrote.1

@@ -1,23 +1,20 @@
 -- `short` meets its contract: the check, and then the short call over an accepted library. Assumes nothing.
 use mathlib.Core.Path.{sym, ◌∙◌, ap}
-use Rattle.checker.specs.Check.{answer_of}
-use Rattle.checker.proofs.Accepted.{if_accepted}
+use Rattle.std.proofs.lemmas.Result.{err_from_is_err_and}
+use Rattle.image.specs.Answer.{verdict_of}
+use Rattle.image.proofs.Outcomes.{when_refused, after_rules}
 use Rattle.search.proofs.Outcomes.{image_refused, image_accepted}
-use Rattle.short.specs.Short.{short_rules, short_of}
-use Rattle.short.proofs.Serves.{short_refused, after_check}
+use Rattle.short.specs.Short.{short_rules, served_of, short_of}
 use Rattle.short.proofs.short.Goals as goal
 
-pub serve-requires : goal.serve-requires
+pub returns-in_err-library : goal.returns-in_err-library
 unfolding short_rules short_of
-serve-requires c = if_accepted _ _ c.check.ensures c.in-Accepted.is
+returns-in_err-library c =
+    let p = err_from_is_err_and c.from_residual.result c.from_residual.ensures.1 in
+    rw (p.1, p.2) (when_refused _ _ _ _ (image_refused _ _ _ (sym (ap verdict_of c.in_err-library.was) ∙ c.accept.ensures.verdict)))
 
-pub returns-in-Refused : goal.returns-in-Refused
-unfolding short_rules short_of
-returns-in-Refused c =
-    short_refused _ _ _ _ _ (image_refused _ _ c.in-Refused.refusal (sym (ap answer_of c.in-Refused.is) ∙ c.check.ensures)) c.number.ensures
-
-pub returns-in-Accepted : goal.returns-in-Accepted
-unfolding short_rules short_of
-returns-in-Accepted c =
-    after_check _ _ _ _ c.serve.ensures
-    (image_accepted (if_accepted _ _ c.check.ensures c.in-Accepted.is) _)
+pub returns : goal.returns
+unfolding short_rules short_of served_of
+returns c =
+    let same = c.in_ok-library.ensures.library in
+    after_rules _ _ _ _ (rw same at c.serve.ensures) (image_accepted (rw same at c.in_ok-library.library.library) _)

@@ -1,28 +1,38 @@
--- `offer::consider` meets its contract: rules 17 to 19 in order, the last by the seat that is found. Assumes nothing.
-use mathlib.Core.Path.{◌≡◌, sym, ◌∙◌}
+use mathlib.Core.Path.{◌≡◌, ◌∙◌}
+use Prim.Native.Nat.{◌<◌}
 use native.Mathlib.Omega.{arith}
-use Rattle.build.proofs.Offers.{filled_library, seated_all}
-use Rattle.build.proofs.StrainRules.{by_profile, by_zero, by_taken, by_held, by_seat}
+use Rattle.build.specs.Rules.{strain_rules}
+use Rattle.build.specs.Steps.{Offered}
+use Rattle.build.proofs.Calls.{judged}
+use Rattle.build.proofs.Offers.{seated_all, held_there, not_held}
 use Rattle.build.proofs.offer.consider.Goals as goal
 
-pub returns-then-profile-wells : goal.returns-then-profile-wells
-returns-then-profile-wells c = by_profile _ _ _ (λ q. c.if-profile-wells.true (q ∙ sym c.wells-wells.ensures.0))
+pub returns-then-strain-library : goal.returns-then-strain-library
+unfolding Offered strain_rules
+returns-then-strain-library c = λ room. grind (arith, judged)
 
-pub returns-then-code-eq0 : goal.returns-then-code-eq0
-returns-then-code-eq0 c = by_zero _ _ _ (c.if-profile-wells.false ∙ c.wells-wells.ensures.0) c.if-code-eq0.true
+pub returns-then-strain-eq0 : goal.returns-then-strain-eq0
+unfolding Offered strain_rules
+returns-then-strain-eq0 c = λ room. grind (arith, judged)
 
-pub returns-then-taken-count : goal.returns-then-taken-count
-returns-then-taken-count c = by_taken _ _ _ (c.if-profile-wells.false ∙ c.wells-wells.ensures.0) c.if-code-eq0.false _ (rw (← c.count-count.ensures.0) c.first_taken-taken.ensures) (omega (arith, c.count-count.ensures.0))
-
-pub find-seat-requires : goal.find-seat-requires
-find-seat-requires c = record { filled = filled_library c.requires _ _ _ c.metric.ensures c.wells-wells.ensures.0 c.count-count.ensures.0; profile_len = c.if-profile-wells.false }
+pub returns-in-Some : goal.returns-in-Some
+unfolding Offered strain_rules
+returns-in-Some c = λ room. grind (arith, judged)
 
 pub returns-then-seat-eq0 : goal.returns-then-seat-eq0
+unfolding Offered strain_rules
 returns-then-seat-eq0 c =
-    let held : c.find-seat.result.distance ≡ 0 = omega arith in
-    by_held _ _ _ (c.if-profile-wells.false ∙ c.wells-wells.ensures.0) c.if-code-eq0.false c.first_taken-taken.result (rw (← c.count-count.ensures.0) c.first_taken-taken.ensures) (omega (arith, c.count-count.ensures.0, c.if-taken-count.false)) c.requires _ (seated_all _ _ _ c.metric.ensures c.count-count.ensures.0 c.find-seat.ensures.1) held
+    let l = c.args.library.now in let long = c.if-strain-library.false ∙ l.is_wells in
+    let seated = seated_all l c.of.result c.of.ensures.records c.of.ensures.filled c.of.ensures.profile c.nearest-seat.ensures in
+    let zero : c.nearest-seat.result.distance ≡ 0 = omega arith in
+    let held = held_there l.library _ long _ seated zero in
+    λ room. grind (arith, judged)
 
 pub returns : goal.returns
+unfolding Offered strain_rules
 returns c =
-    let away : c.find-seat.result.distance ≡ 0 → ⊥ = λ e. omega arith in
-    by_seat _ _ _ (c.if-profile-wells.false ∙ c.wells-wells.ensures.0) c.if-code-eq0.false c.first_taken-taken.result (rw (← c.count-count.ensures.0) c.first_taken-taken.ensures) (omega (arith, c.count-count.ensures.0, c.if-taken-count.false)) c.requires _ (seated_all _ _ _ c.metric.ensures c.count-count.ensures.0 c.find-seat.ensures.1) c.find-seat.ensures.0 away
+    let l = c.args.library.now in let long = c.if-strain-library.false ∙ l.is_wells in
+    let seated = seated_all l c.of.result c.of.ensures.records c.of.ensures.filled c.of.ensures.profile c.nearest-seat.ensures in
+    let away : 0 < c.nearest-seat.result.distance = omega arith in
+    let held = not_held l.library _ long _ seated away in
+    record { passes = λ room. grind (arith, judged); seat_for = record { wells = long; away = away; seated = seated } }

@@ -1,12 +1,9 @@
--- `codes::put_keys` meets its contract: in the loop, the first i are keys, and the rest is as it was. Assumes nothing.
+-- `codes::put_keys` meets its contract: in the loop, the first i are keys. Assumes nothing.
 use mathlib.Core.Path.{◌≡◌}
-use Prim.Native.Nat.{◌-◌, ◌≤◌}
+use Prim.Native.Nat.{ℕ, ◌<◌}
+use lib.ListN.{get_or}
 use Rattle.order.specs.Key.{key_at}
-use Rattle.order.proofs.Filled.{filled_to}
 use Rattle.order.proofs.codes.put_keys.Given as goal
 
 abbrev pub invariant-loop-i : goal.invariant-loop-i
-invariant-loop-i l = (l.i ≤ l.count) × (l.keys ≡ filled_to (key_at l.image) l.i l.initial.keys)
-
-abbrev pub decreases-loop-i : goal.decreases-loop-i
-decreases-loop-i l = l.count - l.i
+invariant-loop-i l = (k : ℕ) → k < l.i → get_or l.keys k 0 ≡ key_at l.records.image.now k

@@ -1,12 +1,10 @@
--- `wells::read` meets its contract: in the loop, the first i wells are read, and the rest is as it was. Assumes nothing.
+-- `wells::read` meets its contract: in the loop, the first i wells are read. Assumes nothing.
 use mathlib.Core.Path.{◌≡◌}
-use Prim.Native.Nat.{◌-◌, ◌≤◌}
-use Rattle.order.proofs.Filled.{filled_to}
-use Rattle.order.proofs.Profiles.{well_in}
+use Prim.Native.Nat.{ℕ, ◌+◌, ◌*◌, ◌<◌}
+use lib.IntN.{pos}
+use lib.ListN.{get_or}
+use Rattle.profile.specs.Bytes.{well_at}
 use Rattle.order.proofs.wells.read.Given as goal
 
 abbrev pub invariant-loop-i : goal.invariant-loop-i
-invariant-loop-i l = (l.i ≤ l.wells) × (l.profile ≡ filled_to (well_in l.image l.at) l.i l.initial.profile)
-
-abbrev pub decreases-loop-i : goal.decreases-loop-i
-decreases-loop-i l = l.wells - l.i
+invariant-loop-i l = (k : ℕ) → k < l.i → get_or l.profile k (pos 0) ≡ well_at l.image (l.at + 2 * k)

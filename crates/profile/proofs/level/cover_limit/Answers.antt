@@ -42,14 +42,5 @@ module _ (z : ℤ) (s : (negsuc 0 ≤ℤ z) × (z ≤ℤ pos 20)) where
   limit-small : cover_limit z ≤ 2097152
   limit-small = omega (arith, ap cover_limit (span_byte s).1, cover_byte byte, pow_mono {i = byte} {j = 21} byte_small)
 
-pub overflow_add-result : goal.overflow_add-result
-overflow_add-result c = rw (raised _ c.requires) (raised-fits _ c.requires)
-
-pub overflow_cast-result : goal.overflow_cast-result
-overflow_cast-result c = rw (read _ c.requires) (tt, record { fits = omega (arith, byte_small _ c.requires) })
-
-pub overflow_shl-result : goal.overflow_shl-result
-overflow_shl-result c = rw (read _ c.requires) (omega (arith, byte_small _ c.requires))
-
 pub returns : goal.returns
 returns c = rw (read _ c.requires, shifted _ c.requires) (refl, limit-small _ c.requires)

@@ -11,11 +11,8 @@ use Rattle.profile.proofs.Signs.{fits_in, less_up, less_down}
 use Rattle.profile.proofs.Levels.{fitting_leading}
 use Rattle.profile.proofs.level.fitting_level.Goals as goal
 
--- of any number: its count of leading zeros fits, and so does 31 less that, which reads back as it is
+-- of any number: 31 less its count of leading zeros reads back as it is
 module _ (a : ℕ) where
-  count_fits : SFits w32 (pos (count_leading_zeros 32 a))
-  count_fits = record { sfits = omega (arith, leading_le 32 a) }
-
   less : SFits w32 (pos 31 -ℤ pos (count_leading_zeros 32 a))
   less =
       let n = count_leading_zeros 32 a in
@@ -24,17 +21,8 @@ module _ (a : ℕ) where
   as_read : to_z w32 (count_leading_zeros 32 a) ≡ pos (count_leading_zeros 32 a)
   as_read = to_z_pos w32 (count_leading_zeros 32 a) (omega (arith, leading_le 32 a))
 
-  less-fits : SFits w32 (pos 31 -ℤ to_z w32 (count_leading_zeros 32 a))
-  less-fits = rw as_read less
-
   less-read : to_z w32 (of_z w32 (pos 31 -ℤ to_z w32 (count_leading_zeros 32 a))) ≡ pos 31 -ℤ pos (count_leading_zeros 32 a)
   less-read = rw (as_read, to_z-of_z w32 (pos 31 -ℤ pos (count_leading_zeros 32 a)) less)
-
-pub overflow_cast-result : goal.overflow_cast-result
-overflow_cast-result c = count_fits _
-
-pub overflow_sub-result-2 : goal.overflow_sub-result-2
-overflow_sub-result-2 c = less-fits _
 
 pub returns : goal.returns
 returns c =

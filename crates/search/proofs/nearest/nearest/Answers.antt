@@ -1,84 +1,38 @@
-use mathlib.Core.Path.{◌≡◌, ◌∙◌}
-use Prim.Native.Nat.{◌<◌}
+-- Assumes nothing.
+use mathlib.Core.Path.{ap, ◌∙◌}
 use native.Mathlib.Omega.{arith}
-use Rattle.ranking.specs.Sort.{itself}
-use Rattle.ranking.specs.First.{offered}
-use Rattle.ranking.specs.Best.{best_of, kept_of}
-use Rattle.image.specs.Fields.{count_of}
-use Rattle.content.specs.Bytes.{Bytes}
-use Rattle.walk.proofs.Steps.{order_at}
-use Rattle.search.proofs.Seeking.{keeps_running, keeps_bound, keeps_not, seeks, seeks_first, keeps_offered, walks_on, sought, order_room, code_room}
+use Rattle.walk.specs.Meeting.{MeetsOne}
+use Rattle.search.proofs.Reached.{met_in}
+use Rattle.search.proofs.Seeking.{seeks_none, seeks_on, sought}
 use Rattle.search.proofs.nearest.nearest.Goals as goal
-use Rattle.search.proofs.nearest.nearest.Goals.{At-loop-met, In-loop-met, Joined-enters, then-enters, else-enters}
+use Rattle.search.proofs.nearest.nearest.Goals.{In-Some}
 
--- the image is bytes
-bytes : (c : At-loop-met) → Bytes c.args.image.now
-bytes c = record { low = λ j. omega (arith, c.shared_slice_known-1.given j) }
-
--- in a turn a record is met
-low : (c : In-loop-met) → c.loop-met.met.place < count_of c.args.image.now
-low c = omega (arith, c.requires.walking.is_count, c.loop-met-test.true)
-
--- its rank is offered, or would not enter
-taken : (c : Joined-enters) → let best = c.loop-met.best in
-    c.if-enters.best ≡ best_of best.asked (offered itself best.asked c.rank-rank.result (kept_of best))
-taken c =
-    let pre = c.requires.le_k in
-    elim c.if-enters.branch [
-      | then-enters w ↦ w.best-is ∙ w.offer-best.ensures
-      | else-enters w ↦ w.best-is ∙ keeps_not pre.0 pre.1 c.loop-met.invariant.keeps _ c.enters.ensures w.if-enters.false
-    ]
+-- a record is met
+one : (c : In-Some) → let next = c.next_within.new.self in
+    MeetsOne c.args.walk.now.library.records.image.now c.args.plate.now c.bound.result c.loop-met.passage.place c.loop-met.passage.measured next.place
+    next.measured c.in-Some.met
+one c = rw (c.loop-met.invariant.walk, c.loop-met.invariant.plate) at c.in-Some.ensures.meets
 
 pub loop-met-init : goal.loop-met-init
 loop-met-init c =
-    seeks_first (record { low = λ j. omega (arith, c.shared_slice_known-1.given j) }) c.requires.walking.library _ _ c.requires.le_k.0
-    c.none-best.ensures _ c.next-met.ensures
-
-pub offset_bounds-order-place : goal.offset_bounds-order-place
-offset_bounds-order-place c = omega (arith, c.requires.walking.is_count, c.requires.walking.library.layout.count.1, c.loop-met-test.true)
-
-pub bounds-order-place : goal.bounds-order-place
-bounds-order-place c = order_room c.requires.walking _ c.loop-met-test.true
-
-pub overflow_cast-order : goal.overflow_cast-order
-overflow_cast-order c = omega (arith, c.shared_slice_known-in-loop-met-1.given c.loop-met.met.place)
+    let start = c.passage-passage.ensures in
+    record { walk = start.walk; plate = start.plate; seeking = rw start.start.0 (seeks_none _ _ _ c.none-best.ensures) }
 
 pub code-code-requires : goal.code-code-requires
-code-code-requires c = code_room c.requires.walking _ c.loop-met-test.true
-
-pub offset_bounds-best-last : goal.offset_bounds-best-last
-offset_bounds-best-last c = omega (arith, c.requires.le_k.1)
-
-pub bounds-best-last : goal.bounds-best-last
-bounds-best-last c = omega (arith, c.requires.le_k.1)
-
-pub offer-best-requires : goal.offer-best-requires
-offer-best-requires c = keeps_running c.requires.le_k.0 c.requires.le_k.1 c.loop-met.invariant.keeps
-
-pub offset_bounds-best-last-in-loop-met : goal.offset_bounds-best-last-in-loop-met
-offset_bounds-best-last-in-loop-met c = omega (arith, c.requires.le_k.1)
-
-pub bounds-best-last-in-loop-met : goal.bounds-best-last-in-loop-met
-bounds-best-last-in-loop-met c = omega (arith, c.requires.le_k.1)
-
-pub overflow_add-place : goal.overflow_add-place
-overflow_add-place c = omega (arith, c.requires.walking.is_count, c.requires.walking.library.layout.count.1, c.loop-met-test.true)
-
-pub next-met-requires-in-loop-met : goal.next-met-requires-in-loop-met
-next-met-requires-in-loop-met c = record { walking = c.requires.walking; from_le_count = omega (arith, c.loop-met-test.true) }
-
-pub loop-met-smaller : goal.loop-met-smaller
-loop-met-smaller c = omega (arith, c.loop-met-test.true, c.next-met-in-loop-met.ensures.onward, c.next-met-in-loop-met.ensures.place, c.requires.walking.is_count)
+code-code-requires c = omega (arith, met_in c.args.walk.now.library.library (one (goal.at.code-code-requires c).In-Some), c.args.walk.now.library.is_count)
 
 pub loop-met-preserved : goal.loop-met-preserved
 loop-met-preserved c =
-    let node = order_at c.requires.walking _ c.loop-met-test.true in
-    let code = c.code-code.ensures in
-    let rank = c.rank-rank.ensures in
-    let kept = keeps_offered (bytes (goal.at.loop-met-preserved c).At-loop-met) c.requires.walking.library _ _ c.requires.le_k.0 c.loop-met.invariant (low (goal.at.loop-met-preserved c).In-loop-met) _ _ _ node code rank (taken (goal.at.loop-met-preserved c).Joined-enters) in
-    seeks (bytes (goal.at.loop-met-preserved c).At-loop-met) c.requires.walking.library _ _ c.requires.le_k.0 kept _ (c.bound.ensures ∙ keeps_bound c.requires.le_k.0 c.requires.le_k.1 kept) _ _
-    c.next-met-in-loop-met.ensures (walks_on (bytes (goal.at.loop-met-preserved c).At-loop-met) c.requires.walking.library _ _ c.requires.le_k.0 c.loop-met.invariant (low (goal.at.loop-met-preserved c).In-loop-met) _ _ _ node code rank)
+    let library = c.args.walk.now.library in
+    record {
+      walk = c.next_within.ensures.walk ∙ c.loop-met.invariant.walk;
+      plate = ap (λ p. p.now) c.next_within.ensures.plate ∙ c.loop-met.invariant.plate;
+      seeking = seeks_on (record { low = library.records.bytes }) library.library c.args.asked.some c.loop-met.invariant.seeking c.bound.ensures
+          (one (goal.at.loop-met-preserved c).In-Some) c.code-code.ensures c.rank.ensures c.offer-best.ensures;
+    }
 
 pub returns : goal.returns
 returns c =
-    sought (bytes (goal.at.returns c).At-loop-met) c.requires.walking.library _ _ c.requires.le_k.0 (c.requires.walking.fits ∙ c.requires.walking.is_wells) c.loop-met.invariant (omega (arith, c.requires.walking.is_count))
+    let library = c.args.walk.now.library in
+    sought (record { low = library.records.bytes }) library.library c.args.asked.some c.loop-met.invariant.seeking c.bound.ensures
+    (c.requires ∙ library.is_wells) (rw (c.loop-met.invariant.walk, c.loop-met.invariant.plate) at c.in_default.ensures.meets)

@@ -1,11 +1,12 @@
--- `put::put` meets its contract: after i turns the parts of the first i ranks are written. Assumes nothing.
-use Prim.Native.Nat.{◌-◌, ◌≤◌}
-use Rattle.ranking.specs.Best.{distance_of, code_of}
-use Rattle.search.proofs.Puts.{Put}
+-- `put::put` meets its contract: after i turns the parts of the first i ranks stand in front of both slices. Assumes nothing.
+use mathlib.Core.Path.{◌≡◌}
+use mathlib.Core.List.{◌++◌, map}
+use lib.ListN.{take, drop}
+use Rattle.ranking.specs.Found.{distance_of, code_of}
 use Rattle.search.proofs.put.put.Given as goal
 
 abbrev pub invariant-loop-i : goal.invariant-loop-i
-invariant-loop-i l = (l.i ≤ l.many) × Put code_of l.ranks l.initial.codes l.at l.i l.codes × Put distance_of l.ranks l.initial.distances l.at l.i l.distances
-
-abbrev pub decreases-loop-i : goal.decreases-loop-i
-decreases-loop-i l = l.many - l.i
+invariant-loop-i l = record {
+  codes : l.codes ≡ map code_of (take l.i l.ranks) ++ drop l.i l.initial.codes;
+  distances : l.distances ≡ map distance_of (take l.i l.ranks) ++ drop l.i l.initial.distances;
+}

@@ -1,75 +1,56 @@
-use mathlib.Core.Path.{◌≡◌}
+use mathlib.Core.Path.{◌∙◌, ap}
+use Prim.Native.Nat.{◌*◌}
 use native.Mathlib.Omega.{arith}
-use lib.ListN.{length}
-use borrow.Author.Rules.{rules}
-use Rattle.image.specs.Fields.{wells_of}
-use Rattle.content.specs.Bytes.{Bytes}
-use Rattle.search.specs.Steps.{ToServe}
-use Rattle.search.proofs.Serves.{serving_none, serving_length, serving_more}
-use Rattle.search.proofs.Serves.{best_long, code_places, distance_places, plate_is, plate_room, plate_small, plate_walking}
-use Rattle.search.proofs.Serves.{codes_room_lem, distances_room_lem, all_served, places_small}
+use Rattle.search.proofs.Serves.{Taken, left_all, left_more, left_none, serving_none, serving_more, serving_all}
+use Rattle.search.proofs.Serves.{turn_room}
 use Rattle.search.proofs.serve.serve.Goals as goal
-use Rattle.search.proofs.serve.serve.Goals.{At-loop-j}
+use Rattle.search.proofs.serve.serve.Goals.{In-Some}
 
--- what the sitting is given
-given : (c : At-loop-j) → let a = c.args in
-    ToServe a.image.now a.plates.now a.many a.k (length a.codes.now) (length a.distances.now)
-given c = c.requires
-
--- the image is bytes
-bytes : (c : At-loop-j) → Bytes c.args.image.now
-bytes c = record { low = λ j. omega (arith, c.shared_slice_known-1.given j) }
-
-wells : (c : At-loop-j) → c.wells-wells.result ≡ wells_of c.args.image.now
-wells c = c.wells-wells.ensures.0
+-- the iterator hands out the next plate
+taken : (c : In-Some) → let rest = c.next.new.self.iter in
+    Taken c.args.library.now.records.image.now c.args.plates.now c.loop-j.j-iterator.count c.in-Some.plate.now rest.rest.now rest.size
+taken c = let chunk = c.in-Some.ensures.steps.0 in left_more c.args.library.now.library c.loop-j.invariant.left chunk.1.0 chunk.1.1 chunk.0
 
 pub loop-j-init : goal.loop-j-init
-loop-j-init c = (omega arith, serving_none _ _ _ _ _, serving_none _ _ _ _ _)
-
-pub overflow_mul-from : goal.overflow_mul-from
-overflow_mul-from c = omega (arith, plate_small (given (goal.at.overflow_mul-from c).At-loop-j) (wells (goal.at.overflow_mul-from c).At-loop-j) c.loop-j-test.true)
-
-pub overflow_add-from : goal.overflow_add-from
-overflow_add-from c = omega (arith, plate_small (given (goal.at.overflow_add-from c).At-loop-j) (wells (goal.at.overflow_add-from c).At-loop-j) c.loop-j-test.true)
-
-pub offset_bounds-plates-from : goal.offset_bounds-plates-from
-offset_bounds-plates-from c = omega (arith, plate_small (given (goal.at.offset_bounds-plates-from c).At-loop-j) (wells (goal.at.offset_bounds-plates-from c).At-loop-j) c.loop-j-test.true)
-
-pub slice_bounds-nearest-end-in-loop-j-2 : goal.slice_bounds-nearest-end-in-loop-j-2
-slice_bounds-nearest-end-in-loop-j-2 c = plate_room (given (goal.at.slice_bounds-nearest-end-in-loop-j-2 c).At-loop-j) (wells (goal.at.slice_bounds-nearest-end-in-loop-j-2 c).At-loop-j) c.loop-j-test.true
-
-pub nearest-best-requires : goal.nearest-best-requires
-nearest-best-requires c = record { walking = plate_walking (given (goal.at.nearest-best-requires c).At-loop-j) (wells (goal.at.nearest-best-requires c).At-loop-j) c.loop-j-test.true c.metric-metric.ensures c.count-count.ensures.0 c.lay_out.ensures; le_k = ((given (goal.at.nearest-best-requires c).At-loop-j).some_k, (given (goal.at.nearest-best-requires c).At-loop-j).most_k) }
+loop-j-init c =
+    let it = c.into_iter-j-iterator.ensures.into_iter_gives in
+    let from = ap (λ i. i.iter) it ∙ c.enumerate-j-items.ensures.source in
+    let none = ap (λ i. i.count) it ∙ c.enumerate-j-items.ensures.count in
+    let chunks = c.chunks_exact.ensures in
+    rw none (record {
+      left = left_all (ap (λ i. i.rest.now) from ∙ chunks.rest) (ap (λ i. i.size) from ∙ chunks.size ∙ c.args.library.now.is_wells);
+      codes = serving_none _ _ _ _ _;
+      distances = serving_none _ _ _ _ _;
+    })
 
 pub overflow_mul-j : goal.overflow_mul-j
-overflow_mul-j c = omega (arith, places_small (given (goal.at.overflow_mul-j c).At-loop-j) _ c.loop-j-test.true)
+overflow_mul-j c = rw c.in-Some.ensures.steps.1 (omega (arith, turn_room _ (taken (goal.at.overflow_mul-j c).In-Some).there c.requires.codes_room))
 
-pub put-requires : goal.put-requires
-put-requires c =
-    let turn = c.loop-j-test.true in (
-      best_long (bytes (goal.at.put-requires c).At-loop-j) (given (goal.at.put-requires c).At-loop-j).library _ (given (goal.at.put-requires c).At-loop-j).most_k _ c.nearest-best.ensures,
-      omega (arith, codes_room_lem (given (goal.at.put-requires c).At-loop-j) _ turn, serving_length _ _ _ _ _ c.loop-j.invariant.1),
-      omega (arith, distances_room_lem (given (goal.at.put-requires c).At-loop-j) _ turn, serving_length _ _ _ _ _ c.loop-j.invariant.2),
-    )
+pub serve_plate-requires-clause-codes_room : goal.serve_plate-requires-clause-codes_room
+serve_plate-requires-clause-codes_room c =
+    let there = (taken (goal.at.serve_plate-requires-clause-codes_room c).In-Some).there in
+    rw c.in-Some.ensures.steps.1 (omega (arith, turn_room _ there c.requires.codes_room, c.loop-j.auto.codes))
 
-pub overflow_add-j : goal.overflow_add-j
-overflow_add-j c = omega (arith, c.loop-j-test.true, (given (goal.at.overflow_add-j c).At-loop-j).most)
+pub serve_plate-requires-clause-distances_room : goal.serve_plate-requires-clause-distances_room
+serve_plate-requires-clause-distances_room c =
+    let there = (taken (goal.at.serve_plate-requires-clause-distances_room c).In-Some).there in
+    rw c.in-Some.ensures.steps.1 (omega (arith, turn_room _ there c.requires.distances_room, c.loop-j.auto.distances))
 
 pub loop-j-preserved : goal.loop-j-preserved
 loop-j-preserved c =
-    let turn = c.loop-j-test.true in
-    let best = c.nearest-best.ensures in
-    let plate = plate_is (given (goal.at.loop-j-preserved c).At-loop-j) (wells (goal.at.loop-j-preserved c).At-loop-j) turn in (
-      omega (arith, turn),
-      serving_more _ _ _ _ _ c.loop-j.invariant.1 c.put.ensures.codes (code_places (bytes (goal.at.loop-j-preserved c).At-loop-j) (given (goal.at.loop-j-preserved c).At-loop-j).library _ (given (goal.at.loop-j-preserved c).At-loop-j).most_k _ best plate),
-      serving_more _ _ _ _ _ c.loop-j.invariant.2 c.put.ensures.distances (distance_places (bytes (goal.at.loop-j-preserved c).At-loop-j) (given (goal.at.loop-j-preserved c).At-loop-j).library _ (given (goal.at.loop-j-preserved c).At-loop-j).most_k _ best plate),
-    )
-
-pub shape_of-codes : goal.shape_of-codes
-shape_of-codes c = serving_length _ _ _ _ _ c.loop-j.invariant.1
-
-pub shape_of-distances : goal.shape_of-distances
-shape_of-distances c = serving_length _ _ _ _ _ c.loop-j.invariant.2
+    let s = c.loop-j.invariant in
+    let t = taken (goal.at.loop-j-preserved c).In-Some in
+    let at = ap (λ i. i * c.args.asked.many) c.in-Some.ensures.steps.1 in
+    rw c.in-Some.ensures.steps.2 (record {
+      left = t.left;
+      codes = serving_more _ _ _ _ _ s.codes at t.is_plate (rw c.of-walk.ensures at c.serve_plate.ensures.is_codes);
+      distances = serving_more _ _ _ _ _ s.distances at t.is_plate (rw c.of-walk.ensures at c.serve_plate.ensures.is_distances);
+    })
 
 pub returns : goal.returns
-returns c = record { codes = all_served (given (goal.at.returns c).At-loop-j) _ _ _ _ (search rules) c.loop-j.invariant.0 (given (goal.at.returns c).At-loop-j).codes_room c.loop-j.invariant.1; distances = all_served (given (goal.at.returns c).At-loop-j) _ _ _ _ (search rules) c.loop-j.invariant.0 (given (goal.at.returns c).At-loop-j).distances_room c.loop-j.invariant.2 }
+returns c =
+    let all = left_none c.args.library.now.library c.loop-j.invariant.left c.in-None.ensures.steps.0.1.0 in
+    record {
+      codes = serving_all _ _ _ _ _ c.loop-j.invariant.codes all c.requires.codes_room;
+      distances = serving_all _ _ _ _ _ c.loop-j.invariant.distances all c.requires.distances_room;
+    }

@@ -1,46 +1,28 @@
-use mathlib.Core.Path.{◌≡◌}
-use mathlib.Core.List.{List, ◌∷◌, ◌++◌}
-use Prim.Native.Nat.{ℕ, ◌+◌, ◌*◌, ◌<◌}
+use mathlib.Core.Path.{◌≡◌, ◌∙◌}
+use Prim.Native.Nat.{◌+◌, ◌*◌}
 use native.Mathlib.Omega.{arith}
 use borrow.Author.Rules.{rules}
-use mir.Syntax.{w16}
-use mir.ValLaws.{to_z-of_z}
 use Rattle.profile.specs.Bytes.{well_at}
-use Rattle.text.specs.Decimal.{signed_decimal}
-use Rattle.text.proofs.Parts.{values_on, values_all, values_next, values_none}
-use Rattle.text.proofs.Writes.{all_left, Left, none_left, part_fits, less_left, byte_fits, byte_less}
+use Rattle.profile.proofs.Reading.{wells_length, wells_well}
+use Rattle.text.proofs.Decimals.{signed_16}
+use Rattle.text.proofs.Parts.{values_more, values_room}
+use Rattle.text.proofs.Writes.{joined}
 use Rattle.text.proofs.line.put_values.Goals as goal
+use Rattle.text.proofs.line.put_values.Goals.{After-well}
 
--- what is left begins with a space, the value of well i behind it
-next : {room : List ℕ} {at : ℕ} {text : List ℕ} {end : ℕ} {room' : List ℕ} (image : List ℕ) (from wells i : ℕ) → i < wells
-    → Left room at text end room' (values_on image from wells i)
-    → Left room at text end room' (32 ∷ (signed_decimal (well_at image (from + 2 * i)) ++ values_on image from wells (i + 1)))
-next image from wells i h l = rw (values_next image from wells i h) at l
+pub well-requires : goal.well-requires
+well-requires c = let a = c.args.profile.now in omega (arith, wells_length a.image.now a.at a.wells)
 
-pub loop-i-init : goal.loop-i-init
-loop-i-init c = (omega arith, all_left _ _ _ (values_all _ _ _) c.requires.2)
+-- the well that is read
+is_well : (c : After-well) → c.well.result ≡ well_at c.args.profile.now.image.now (c.args.profile.now.at + 2 * c.loop-i.i)
+is_well c = let a = c.args.profile.now in c.well.ensures ∙ wells_well a.image.now a.at a.wells c.loop-i.i (omega arith)
 
-pub bounds-room-end : goal.bounds-room-end
-bounds-room-end c = let a = c.args in byte_fits (next a.image.now a.from a.wells c.loop-i.i (omega arith) c.loop-i.invariant.1)
-
-pub put_signed-end-requires : goal.put_signed-end-requires
-put_signed-end-requires c =
-    let a = c.args in
-    let i = c.loop-i.i in
-    rw (to_z-of_z w16 c.read.result (search rules), c.read.ensures)
-    (part_fits (signed_decimal (well_at a.image.now (a.from + 2 * i))) (values_on a.image.now a.from a.wells (i + 1)) (byte_less (next a.image.now a.from a.wells i (omega arith) c.loop-i.invariant.1)))
+pub put_field-requires : goal.put_field-requires
+put_field-requires c =
+    let a = c.args.profile.now in
+    rw (signed_16 c.well.result (search rules), is_well (goal.at.put_field-requires c).After-well) (omega (arith, values_room a.image.now a.at c.loop-i.i a.wells (omega arith)))
 
 pub loop-i-preserved : goal.loop-i-preserved
 loop-i-preserved c =
-    let a = c.args in
-    let i = c.loop-i.i in (
-      omega arith,
-      less_left (signed_decimal (well_at a.image.now (a.from + 2 * i))) (values_on a.image.now a.from a.wells (i + 1))
-          (byte_less (next a.image.now a.from a.wells i (omega arith) c.loop-i.invariant.1))
-          (rw (to_z-of_z w16 c.read.result (search rules), c.read.ensures) at c.put_signed-end.ensures),
-    )
-
-pub returns : goal.returns
-returns c =
-    let e : c.loop-i.i ≡ c.args.wells = omega arith in
-    none_left (rw (e, values_none) at c.loop-i.invariant.1)
+    let part = rw (signed_16 c.well.result (search rules), is_well (goal.at.loop-i-preserved c).After-well) at c.put_field.ensures in
+    rw values_more (joined c.loop-i.invariant part)

@@ -1,18 +1,14 @@
 -- `lay::lay_out` meets its contract. Assumes nothing.
 use mathlib.Core.Path.{refl}
-use Rattle.walk.proofs.Chains.{links_none}
+use Rattle.walk.proofs.Chains.{linked_none}
 use Rattle.walk.proofs.Lays.{tree_room, tree_laid}
 use Rattle.walk.proofs.lay.lay_out.Goals as goal
 
-pub link-requires : goal.link-requires
-link-requires c = record { library = c.requires.library; count_value = c.requires.count_value; links = links_none _ _ _ refl c.requires.count_value.0 }
+pub hang-requires : goal.hang-requires
+hang-requires c = linked_none refl refl c.args.library.now.is_count
 
-pub lay_by-requires : goal.lay_by-requires
-lay_by-requires c =
-    let links = c.link.ensures in
-    record { links_len = links.long; room = tree_room _ c.requires.library links.linked c.requires.count_value.1 c.requires.order_len.0 c.requires.order_len.1 }
+pub lay-requires : goal.lay-requires
+lay-requires c = let l = c.args.library.now in tree_room l.root l.library c.hang.ensures l.is_root c.requires
 
 pub returns : goal.returns
-returns c =
-    let links = c.link.ensures in
-    tree_laid _ c.requires.library links.linked c.requires.count_value.1 c.requires.order_len.0 c.requires.order_len.1 c.lay_by.ensures
+returns c = let l = c.args.library.now in tree_laid l.root l.library c.hang.ensures l.is_root c.requires l.is_count c.lay.ensures

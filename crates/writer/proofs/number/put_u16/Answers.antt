@@ -1,11 +1,11 @@
 -- `number::put_u16` meets its contract. Assumes nothing.
-use native.Mathlib.Numerals.{add-one}
-use native.Mathlib.Omega.{arith}
-use lib.ListN.{length-set}
+use Rattle.std.proofs.Common.{◌≡◌, ◌/◌, ◌%◌, ◌∙◌, arith}
+use Rattle.content.specs.Bytes.{bytes16}
+use Rattle.writer.proofs.Stores.{part_run}
 use Rattle.writer.proofs.number.put_u16.Goals as goal
 
-pub bounds-image-at-2 : goal.bounds-image-at-2
-bounds-image-at-2 c = simp length-set (omega arith)
-
 pub returns : goal.returns
-returns c = rw add-one
+returns c =
+    let a = c.args in
+    let high : a.n / 256 % 256 ≡ a.n / 256 = omega arith in
+    part_run a.image.now a.at _ (bytes16 a.n) (c.copy_from_slice.ensures.after ∙ c.to_le_bytes.ensures ∙ cc) (omega arith) (omega arith)

@@ -1,8 +1,8 @@
--- `record::put_profile` meets its contract: in the loop, the first i wells are written. Assumes nothing.
+-- `record::put_profile` meets its contract: in the loop, the first i wells are written, and each is a value of 16 bits. Assumes nothing.
 use mathlib.Core.Path.{◌≡◌}
-use Prim.Native.Nat.{ℕ, ◌-◌, ◌≤◌, ◌<◌}
+use Prim.Native.Nat.{ℕ, ◌<◌}
 use lib.IntN.{pos}
-use lib.ListN.{length, get_or, take}
+use lib.ListN.{get_or, take}
 use lib.Seq.{sets}
 use mir.Syntax.{w16}
 use mir.Val.{SFits}
@@ -10,7 +10,7 @@ use Rattle.content.specs.Bytes.{profile_bytes}
 use Rattle.writer.proofs.record.put_profile.Given as goal
 
 abbrev pub invariant-loop-i : goal.invariant-loop-i
-invariant-loop-i l = (l.i ≤ length l.profile) × (l.image ≡ sets l.initial.image l.at (profile_bytes (take l.i l.profile))) × ((j : ℕ) → j < l.i → SFits w16 (get_or l.profile j (pos 0)))
-
-abbrev pub decreases-loop-i : goal.decreases-loop-i
-decreases-loop-i l = l.i-end - l.i
+invariant-loop-i l = record {
+  written : l.image ≡ sets l.initial.image l.at (profile_bytes (take l.i l.profile));
+  values : (j : ℕ) → j < l.i → SFits w16 (get_or l.profile j (pos 0));
+}

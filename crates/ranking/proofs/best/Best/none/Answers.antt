@@ -1,8 +1,14 @@
 -- `Best::none` meets its contract, by computation. Assumes nothing.
 use mathlib.Core.Path.{refl}
-use Rattle.ranking.specs.Best.{best_of}
+use native.Mathlib.Omega.{arith}
+use Rattle.ranking.specs.Order.{Ascending}
 use Rattle.ranking.proofs.best.Best.none.Goals as goal
 
-pub returns : goal.returns
-unfolding best_of
-returns c = refl
+pub invariant_of-result : goal.invariant_of-result
+invariant_of-result c = record {
+  some = c.args.asked.some;
+  most = c.args.asked.most;
+  room = omega arith;
+  ascending = Ascending.none;
+  zeros = refl;
+}
