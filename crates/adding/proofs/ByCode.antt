@@ -1,10 +1,10 @@
 -- A library's strains read one after the other, in order of code. Assumes nothing.
 use mathlib.Core.Path.{◌≡◌, sym, ◌∙◌, ap}
-use mathlib.Core.List.{List}
-use Prim.Native.Nat.{ℕ, ◌<◌}
+use mathlib.Core.List.{List, [], ◌++◌, append-nil}
+use Prim.Native.Nat.{ℕ, ◌≤◌, ◌<◌}
 use native.Mathlib.Omega.{arith}
 use lib.IntN.{ℤ}
-use lib.ListN.{get_or}
+use lib.ListN.{length, get_or, drop, drop_of_length-le}
 use Rattle.profile.specs.Bytes.{wells_at}
 use Rattle.image.specs.Fields.{code_at, profile_start, profile_at}
 use Rattle.image.specs.declared.accepted.Accepted.{Accepted}
@@ -18,13 +18,15 @@ use Rattle.order.proofs.Order.{order_strain, order_in}
 abbrev pub nobody : Strain
 nobody = no_record.strain
 
--- what was copied out of a library is the strain of its record
-pub copied : (a : Accepted) (i : ℕ) {code : ℕ} {xs : List ℤ} → code ≡ code_at a.records.image.now i
-    → xs ≡ wells_at a.records.image.now (profile_start a.records.shape.count a.records.shape.wells i) a.records.shape.wells
+-- what was copied out of a library, over all of what was lent, is the strain of its record
+pub copied : (a : Accepted) (i : ℕ) {code : ℕ} {xs : List ℤ} (lent : List ℤ) → code ≡ code_at a.records.image.now i
+    → xs ≡ wells_at a.records.image.now (profile_start a.records.shape.count a.records.shape.wells i) a.records.shape.wells ++ drop a.records.shape.wells lent
+    → length lent ≤ a.records.shape.wells
     → strain_of code xs ≡ strain_at a.records.image.now i
 unfolding profile_at
-copied a i {xs = xs} e q =
-    let p : xs ≡ profile_at a.records.image.now i = rw (a.is_wells, a.is_count) at q in
+copied a i {xs = xs} lent e q few =
+    let none : drop a.records.shape.wells lent ≡ [] = drop_of_length-le lent {i = a.records.shape.wells} few in
+    let p : xs ≡ profile_at a.records.image.now i = rw (none, append-nil, a.is_wells, a.is_count) at q in
     λ t. record { code = e t; profile = p t }
 
 -- record `from`, the i-th in order of code

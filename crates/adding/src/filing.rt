@@ -10,8 +10,7 @@ use crate::takers::Takers;
 use image::accepted::Accepted;
 use image::records::Records;
 
-// The strain of record i, its profile copied out.
-#[tactic(auto, using(crate::proofs::ByCode::copied))]
+// The strain of record i. Its profile is copied out, as a new strain's is a list of wells wherever it comes from.
 fn copy_out<'p>(library: &Accepted<'_>, i: usize, profile: &'p mut [i16; 16]) -> NewStrain<'p>
     requires { i < library.now.records.shape.count }
     ensures fits { length result.profile.now ≡ library.now.records.shape.wells }

@@ -10,7 +10,7 @@ use crate::strain::NewStrain;
 use image::accepted::Accepted;
 use image::shape::Shape;
 
-// The library is the first `stated` bytes. Makes room for a record, writes the header anew, and hangs the strain into the tree.
+// The library is the first `stated` bytes of a buffer that is lent to be written, so it comes as a fact and not as an `Accepted`, which borrows. Makes room for a record, writes the header anew, and hangs the strain into the tree.
 pub fn grow(buffer: &mut [u8], stated: usize, strain: NewStrain<'_>, seat: Seat)
     requires library { Library (take stated buffer.old) }
     requires seat_for { SeatFor (take stated buffer.old) strain.profile.now seat }

@@ -41,6 +41,7 @@ impl Takers<'_, '_> {
             image: self.records.image,
         };
         let mut best = self.seat_at(header.root());
+        // each search for the next goes on behind the last; an iterator of its own would say the same in more lines
         let mut from = 0;
         while let Some(i) = self.next_near(from) {
             best = std::cmp::min_by_key(best, self.seat_at(i), |seat| (seat.distance, seat.code));

@@ -93,6 +93,7 @@ impl Task for Looking<'_, '_> {
     #[inline(always)]
     fn run(self, metric: Metric, wells: usize) -> Option<usize> {
         let Looking { takers, from } = self;
+        // a loop: of a closure the compiler keeps one body for all widths
         for i in from..takers.filled {
             if takers.near_enough(metric, wells, i) {
                 return Some(i);

@@ -29,14 +29,11 @@ pub extern "C" fn kwb_lists(metric: u8, a: &[i16], b: &[i16]) -> u32
     requires { (length a.now ≤ 16) × (length b.now ≡ length a.now) }
     ensures { result ≡ distance metric a.now b.now }
 {
-    match Metric::try_from(metric) {
-        Ok(metric) => profile::distance::distance(metric, a, b, a.len()),
-        Err(_) => 0,
-    }
+    profile::distance::by_number(metric, a, b, a.len())
 }
 
 // A row of distances, as a check or a scan makes them. Of `count` profiles, one after the other in the bytes from `from` on, the first
-// that lies nearer to another than `limit`: its distance, or the limit where none does.
+// that lies nearer to another than `limit`: its distance, or the limit where none does, as the C interface has it.
 #[derive(Clone, Copy)]
 struct Row<'a, P> {
     image: &'a [u8],

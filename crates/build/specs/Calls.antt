@@ -2,13 +2,12 @@
 use Rattle.std.specs.Prelude.{◌≡◌, List, ℕ, ℤ, length}
 use Rattle.image.specs.Strains.{strain_of}
 use Rattle.image.specs.Verdict.{judge}
-use Rattle.image.specs.Answer.{Outcome, outcome, handed}
+use Rattle.image.specs.Answer.{Outcome, outcome, handed, Answered}
 use Rattle.content.specs.Bytes.{bytes_of}
 use Rattle.content.specs.Adding.{started}
 use Rattle.content.specs.Filing.{filing_form}
 use Rattle.adding.specs.ImageWith.{image_with}
 use Rattle.build.specs.Rules.{start_rules, add_rules, file_rules}
-use Rattle.image.specs.Answer.{Answered}
 
 unfoldable pub start_of : (wells metric code : ℕ) → List ℤ → List ℕ → Outcome
 start_of wells metric code profile buffer =

@@ -14,8 +14,8 @@ use profile::metric::Metric;
 
 mod offer; // offer.rt: rules 17 to 19
 
-// The metric of this number.
-fn metric_of(number: u32) -> Option<Metric>
+// The metric of this number: the C interface tells it in 32 bits.
+fn metric_by_number(number: u32) -> Option<Metric>
     ensures { MatchOption result (outside 1 2 number ≡ true) (λ metric. (outside 1 2 number ≡ false) × (metric_number metric ≡ number)) }
 {
     Metric::try_from(u8::try_from(number).ok()?).ok()
@@ -36,7 +36,7 @@ pub fn start(
     if checker::range::outside(1, 16, wells) {
         return Err(Refusal::Wells(Place::None));
     }
-    let Some(metric) = metric_of(metric) else {
+    let Some(metric) = metric_by_number(metric) else {
         return Err(Refusal::Metric(Place::None));
     };
     if profile.len() != wells {

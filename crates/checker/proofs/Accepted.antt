@@ -22,11 +22,10 @@ use Rattle.image.specs.Fields.{wells_of, metric_of, count_of, root_of, code_at, 
 use Rattle.image.specs.Library.{Layout, tree_of, Library}
 use Rattle.image.specs.Verdict.{accepted, judge}
 use Rattle.image.proofs.Verdicts.{pass}
-use Rattle.checker.specs.Check.{Checked}
+use Rattle.checker.specs.Check.{Checked, header_rules, check_rules, check_of}
 use Rattle.checker.specs.Tests.{outside, bad_size, bad_node, bad_level, bad_cover, same_code, too_near}
 use Rattle.std.specs.Prelude.{Ok}
 use Rattle.image.specs.Answer.{verdict_of}
-use Rattle.checker.specs.Check.{header_rules, check_rules, check_of}
 use Rattle.image.proofs.Tests.{told_false, tells_or, tells_le}
 use Rattle.checker.proofs.Table.{tells_outside, tells_other, tells_node, tells_code, tells_level, tells_cover, tells_near}
 use Rattle.checker.proofs.Passed.{or_false, inside, GoodNode, good_node}

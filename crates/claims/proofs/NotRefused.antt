@@ -1,7 +1,7 @@
 -- On an accepted library a search that is asked as it should be is not refused, and hands back what document 01 says. Assumes nothing.
 use Rattle.image.proofs.Answers.{given_ok}
 use Rattle.std.specs.Prelude.{Ok}
-use Rattle.search.specs.Answer.{counted}
+use Rattle.search.specs.Answer.{counted, Served, Gathered, outcome}
 use mathlib.Core.Path.{◌≡◌, refl, sym, ◌∙◌}
 use mathlib.Core.Logic.{◌⊎◌, inl, inr}
 use mathlib.Core.Bool.{false, not, ◌||◌}
@@ -18,9 +18,6 @@ use Rattle.image.proofs.Tests.{told_false, tells_or}
 use Rattle.image.proofs.Verdicts.{pass}
 use Rattle.checker.specs.Tests.{outside}
 use Rattle.checker.proofs.Table.{tells_outside, tells_other}
-use Rattle.search.specs.Answer.{Served}
-use Rattle.search.specs.Answer.{Gathered}
-use Rattle.search.specs.Answer.{outcome}
 use Rattle.search.specs.Ranked.{plates_in}
 use Rattle.search.specs.Rules.{plate_rules, sitting_rules, within_rules}
 use Rattle.search.specs.Calls.{sat, sitting_of, SittingGives, around, within_of, WithinGives}

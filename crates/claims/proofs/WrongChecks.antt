@@ -14,12 +14,12 @@ use Rattle.claims.proofs.Example.{example_accepted, lower_refused}
 use Rattle.claims.proofs.Inputs.{example_bytes, uncovered_bytes}
 
 module _ (program : CheckProgram) (meets : MeetsCheck program) where
-  pub no_check_refuses_all : ((a : CheckAsked) → program a ≢ (Ok tt)) → ⊥
+  pub no_check_refuses_all : ((a : CheckAsked) → program a ≢ Ok tt) → ⊥
   no_check_refuses_all bad =
       let a : CheckAsked = record { image = example; is_image = example_bytes } in
       bad a (one_answer (program a) (Ok tt) (meets a ∙ example_accepted))
 
-  pub no_check_accepts_all : ((a : CheckAsked) → program a ≡ (Ok tt)) → ⊥
+  pub no_check_accepts_all : ((a : CheckAsked) → program a ≡ Ok tt) → ⊥
   no_check_accepts_all bad =
       let a : CheckAsked = record { image = example_with 1; is_image = uncovered_bytes } in
       let e : accepted ≡ refused 12 (Place.Record 1) = sym (ap verdict_of (bad a)) ∙ meets a ∙ lower_refused in

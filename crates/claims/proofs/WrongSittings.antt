@@ -10,14 +10,12 @@ use lib.ListN.{length, get_or, take, drop, replicate}
 use Rattle.profile.specs.Bytes.{signed, well_at, wells_at}
 use Rattle.profile.specs.Distance.{Wells, gap, joined, distance}
 use Rattle.ranking.specs.Sort.{insert, sort_by}
-use Rattle.image.specs.Answer.{given}
+use Rattle.image.specs.Answer.{given, answer_of}
 use Rattle.image.specs.Fields.{count_of, profile_at}
 use Rattle.image.specs.Strains.{each, strains_of}
 use Rattle.content.specs.Bytes.{Bytes}
 use Rattle.walk.specs.Weighed.{weighed}
-use Rattle.search.specs.Answer.{Served}
-use Rattle.search.specs.Answer.{handed}
-use Rattle.image.specs.Answer.{answer_of}
+use Rattle.search.specs.Answer.{Served, handed}
 use Rattle.search.specs.Calls.{code_in, distance_in, sitting_of}
 use Rattle.search.specs.Ranked.{ranked, nearest, plates_in, plate_at, places, rows}
 use Rattle.search.proofs.Answers.{one_answer}

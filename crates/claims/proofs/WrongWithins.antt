@@ -1,6 +1,6 @@
 -- Searches within a radius that document 01 has shut out: whatever else a program of such a kind does, it does not meet the contract.
 -- Assumes nothing.
-use Rattle.search.specs.Answer.{counted}
+use Rattle.search.specs.Answer.{counted, Gathered, handed}
 use mathlib.Core.Path.{◌≡◌, refl, sym, ◌∙◌, ap}
 use mathlib.Core.Logic.{◌≢◌, ◌⊎◌, ⊎_elim}
 use mathlib.Core.List.{List, [], ◌∷◌}
@@ -12,16 +12,13 @@ use Rattle.profile.specs.Bytes.{signed, well_at, wells_at}
 use Rattle.profile.specs.Distance.{Wells, gap, joined, distance}
 use Rattle.profile.specs.Level.{cover_limit, reach}
 use Rattle.ranking.specs.Sort.{insert, sort_by}
-use Rattle.image.specs.Answer.{given}
+use Rattle.image.specs.Answer.{given, answer_of}
 use Rattle.image.specs.Fields.{profile_at}
 use Rattle.image.specs.Strains.{each, strains_of}
 use Rattle.content.specs.Bytes.{Bytes}
 use Rattle.walk.specs.Walk.{opens}
 use Rattle.walk.specs.Weighed.{weighed, found_at, reach_at}
 use Rattle.walk.specs.Measured.{measured_in, is_measured, measured_from, measured_count}
-use Rattle.search.specs.Answer.{Gathered}
-use Rattle.search.specs.Answer.{handed}
-use Rattle.image.specs.Answer.{answer_of}
 use Rattle.search.specs.declared.Tally.{Tally}
 use Rattle.search.specs.Calls.{within_of}
 use Rattle.search.specs.Ranked.{ranked, inside, within_radius}

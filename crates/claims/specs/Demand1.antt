@@ -6,17 +6,14 @@ use Rattle.profile.specs.Distance.{Wells}
 use Rattle.image.specs.declared.refusal.Place.{Place}
 use Rattle.image.specs.Verdict.{Verdict, accepted, refused}
 use Rattle.image.specs.Faults.{Line, FirstFault, NoFault}
-use Rattle.image.specs.Answer.{Answer, given, denied, answer_of}
+use Rattle.image.specs.Answer.{Answer, given, denied, answer_of, Answered, verdict_of}
 use Rattle.checker.specs.Check.{Checked}
 use Rattle.checker.specs.Check as check
 use Rattle.checker.specs.Table.{table}
 use Rattle.content.specs.Bytes.{Bytes}
-use Rattle.image.specs.Answer.{Answered}
 use Rattle.build.specs.Calls.{start_of, add_of, file_of, StartGives, AddGives, FileGives}
 use Rattle.build.specs.Table.{start_table, add_table, file_table}
-use Rattle.search.specs.Answer.{Served}
-use Rattle.search.specs.Answer.{Gathered}
-use Rattle.image.specs.Answer.{verdict_of}
+use Rattle.search.specs.Answer.{Served, Gathered}
 use Rattle.search.specs.Calls.{sitting_of, within_of, SittingGives, WithinGives}
 use Rattle.search.specs.Table.{sitting_table, within_table}
 use Rattle.text.specs.Calls as text

@@ -1,8 +1,7 @@
 -- Demand 2: what is accepted, what the searches give, and what an addition leaves. Said of the contracts that the calls' code is proved to meet, in the
 -- words of document 01: neither a sort nor a rank is named here, and a walk only in the signed sentence. Assumes nothing.
-use Rattle.std.specs.Prelude.{Ok}
-use Rattle.search.specs.Answer.{counted}
-use Rattle.std.specs.Prelude.{◌≡◌, ◌↔◌, ◌⊎◌, ℕ, ◌+◌, ◌*◌, ◌%◌, ◌≤◌, ◌<◌, min, ℤ, length, take, drop}
+use Rattle.std.specs.Prelude.{Ok, ◌≡◌, ◌↔◌, ◌⊎◌, ℕ, ◌+◌, ◌*◌, ◌%◌, ◌≤◌, ◌<◌, min, ℤ, length, take, drop}
+use Rattle.search.specs.Answer.{counted, Served, Gathered}
 use mathlib.Core.List.{List, [], ◌∷◌, ◌++◌, map, Memᴰ}
 use Rattle.profile.specs.Distance.{Wells, distance}
 use Rattle.profile.specs.Level.{reach}
@@ -14,15 +13,12 @@ use Rattle.tree.specs.Grow.{CanTake, NearestTaker, Grown}
 use Rattle.image.specs.Fields.{wells_of, metric_of, count_of, root_of, code_at, parent_at, level_at, profile_at, distance_at}
 use Rattle.image.specs.Strains.{Strain, strains_of, strain_of}
 use Rattle.image.specs.Library.{Layout, tree_of, Library}
-use Rattle.checker.specs.Check.{Checked}
-use Rattle.checker.specs.Check.{CheckGives}
+use Rattle.checker.specs.Check.{Checked, CheckGives}
 use Rattle.content.specs.Bytes.{Bytes}
 use Rattle.content.specs.Content.{content_of}
 use Rattle.content.specs.Adding.{started}
 use Rattle.walk.specs.Weighed.{weighed}
 use Rattle.build.specs.Calls.{StartGives, AddGives}
-use Rattle.search.specs.Answer.{Served}
-use Rattle.search.specs.Answer.{Gathered}
 use Rattle.search.specs.Ranked.{plates_in, plate_at, places}
 use Rattle.search.specs.Calls.{code_in, distance_in, SittingGives, WithinGives}
 use Rattle.search.specs.Weighing.{EveryStrainWeighed}
@@ -31,7 +27,7 @@ use Rattle.search.specs.Weighing.{EveryStrainWeighed}
 
 pub record Acceptance : Type 0 where
   -- accepted exactly when its layout and the root, cover and separation conditions of the published definition hold
-  pub exactly : (image : List ℕ) {r : Checked} → CheckGives image r → (r ≡ (Ok tt)) ↔ Library image
+  pub exactly : (image : List ℕ) {r : Checked} → CheckGives image r → (r ≡ Ok tt) ↔ Library image
   -- of these conditions the root's follows from cover, and separation is what document 01 says of pairs
   pub conditions : (image : List ℕ) → Layout image
       → CoverTree (distance (metric_of image)) (count_of image) (tree_of image)

@@ -1,15 +1,11 @@
 -- Demand 3: the filing form. Said of the contracts that the calls' code is proved to meet. `Bytes` is what the type of an image says. Assumes nothing.
-use Rattle.std.specs.Prelude.{Ok}
-use Rattle.std.specs.Prelude.{◌≡◌, ◌↔◌, List, ◌++◌, ℕ, ◌≤◌, ℤ, length, drop}
+use Rattle.std.specs.Prelude.{Ok, ◌≡◌, ◌↔◌, List, ◌++◌, ℕ, ◌≤◌, ℤ, length, drop}
 use Rattle.image.specs.Library.{Library}
 use Rattle.content.specs.Bytes.{Bytes}
 use Rattle.content.specs.Filing.{filing_form, Agree}
-use Rattle.image.specs.Answer.{Answered}
+use Rattle.image.specs.Answer.{Answered, answer_of}
 use Rattle.build.specs.Calls.{FileGives}
-use Rattle.search.specs.Answer.{Served}
-use Rattle.search.specs.Answer.{Gathered}
-use Rattle.search.specs.Answer.{strains_in}
-use Rattle.image.specs.Answer.{answer_of}
+use Rattle.search.specs.Answer.{Served, Gathered, strains_in}
 use Rattle.search.specs.Calls.{SittingGives, WithinGives}
 use Rattle.short.specs.Short.{ShortGives}
 

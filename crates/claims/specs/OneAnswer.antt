@@ -1,12 +1,10 @@
 -- How tightly the answers are bound: for each public call, any two answers with the memory left behind them that meet the contract are the same.
 -- Assumes nothing.
 use Rattle.std.specs.Prelude.{◌≡◌, List, ℕ, ℤ}
-use Rattle.checker.specs.Check.{Checked}
-use Rattle.checker.specs.Check.{check_of, CheckGives}
+use Rattle.checker.specs.Check.{Checked, check_of, CheckGives}
 use Rattle.image.specs.Answer.{Answered}
 use Rattle.build.specs.Calls.{start_of, add_of, file_of, StartGives, AddGives, FileGives}
-use Rattle.search.specs.Answer.{Served}
-use Rattle.search.specs.Answer.{Gathered}
+use Rattle.search.specs.Answer.{Served, Gathered}
 use Rattle.search.specs.Calls.{sitting_of, within_of, SittingGives, WithinGives}
 use Rattle.text.specs.Calls.{list_of, ListGives, PrintGives}
 use Rattle.short.specs.Short.{ShortGives}

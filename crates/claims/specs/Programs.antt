@@ -3,16 +3,12 @@
 use Rattle.std.specs.Prelude.{◌≡◌, List, ℕ, ◌<◌, ℤ, length, get_or}
 use Rattle.profile.specs.Distance.{Wells}
 use Rattle.image.specs.Answer as image
-use Rattle.image.specs.Answer.{given}
-use Rattle.checker.specs.Check.{Checked}
-use Rattle.checker.specs.Check.{CheckGives}
+use Rattle.image.specs.Answer.{given, Answered}
+use Rattle.checker.specs.Check.{Checked, CheckGives}
 use Rattle.content.specs.Bytes.{Bytes}
-use Rattle.search.specs.Answer.{Outcome}
+use Rattle.search.specs.Answer.{Outcome, Served, Gathered}
 use Rattle.search.specs.declared.Tally.{Tally}
-use Rattle.search.specs.Answer.{Served}
-use Rattle.search.specs.Answer.{Gathered}
 use Rattle.search.specs.Calls.{sitting_of, SittingGives, within_of, WithinGives}
-use Rattle.image.specs.Answer.{Answered}
 use Rattle.build.specs.Calls.{AddGives, FileGives}
 use Rattle.short.specs.Short.{short_of, refusal_number, ShortGives}
 

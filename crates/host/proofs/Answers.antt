@@ -2,9 +2,8 @@
 use mathlib.Core.Path.{◌≡◌, refl, sym, ◌∙◌, ap}
 use mathlib.Core.List.{List}
 use Prim.Native.Nat.{ℕ}
-use Rattle.image.specs.Answer.{Answer, Outcome, answer_of, verdict_of, handed}
+use Rattle.image.specs.Answer.{Answer, Outcome, answer_of, verdict_of, handed, Answered}
 use Rattle.checker.specs.Check.{Checked, check_of}
-use Rattle.image.specs.Answer.{Answered}
 use Rattle.search.specs.Answer as search
 use Rattle.std.specs.Prelude.{Result, Ok, Err, IfOk, IfErr, IsOkAnd, MatchResult}
 use Rattle.image.specs.declared.refusal.Refusal.{Refusal}

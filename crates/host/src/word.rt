@@ -6,6 +6,8 @@ ghost use Rattle.host.specs.Word.{first as word_first, second as word_second, lo
 use image::refusal::{Place, Refusal};
 use search::Tally;
 
+// The parts of the word, each by its definition; one function over a shift and a width would need both named at each use.
+
 // The longest library takes 40976 bytes, so 16 bits hold its length.
 pub fn first(n: usize) -> u64
     ensures { (result ≡ word_first n) × (result < 4294967296) }
@@ -39,7 +41,7 @@ fn place(told: Place) -> u64
 pub fn refusal(told: Refusal) -> u64
     ensures { result ≡ refused_word (number_of told) (place_of told) }
 {
-    told.number() as u64 + place(told.place())
+    u64::from(told.number()) + place(told.place())
 }
 
 // The word of an answer, whose values are told in a word already.

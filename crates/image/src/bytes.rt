@@ -1,4 +1,4 @@
-// Little-endian numbers in a library's bytes.
+// Little-endian numbers in a library's bytes. `from_le_bytes` is a method of each width's type, so that one function for both would be longer.
 ghost use Rattle.std.specs.Prelude.{◌≡◌, ◌+◌, ◌<◌, length};
 ghost use Rattle.image.specs.Numbers.{u16_at, u32_at};
 

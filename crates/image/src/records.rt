@@ -1,4 +1,4 @@
-// The records of an image that has room for as many as its shape says.
+// The records of an image that has room for as many as its shape says. Record i takes 8 bytes from 16 + 8 * i on.
 ghost use Rattle.std.specs.Prelude.{◌≡◌, ℕ, ◌≤◌, ◌<◌, length, get_or};
 ghost use Rattle.image.specs.Fields.{code_at, parent_at, level_byte_at, level_at, spare_at, profile_start, size_of};
 
@@ -18,7 +18,7 @@ impl<'a> Records<'a> {
         requires { i < self.now.shape.count }
         ensures { result ≡ code_at self.now.image.now i }
     {
-        crate::node::code(self.image, i)
+        crate::bytes::u32_at(self.image, 16 + 8 * i)
     }
 
     // The parent's record number.
@@ -27,21 +27,21 @@ impl<'a> Records<'a> {
         ensures exact { result ≡ parent_at self.now.image.now i }
         ensures high { result < 65536 }
     {
-        crate::node::parent(self.image, i)
+        usize::from(crate::bytes::u16_at(self.image, 20 + 8 * i))
     }
 
     pub fn level_byte(&self, i: usize) -> u8
         requires { i < self.now.shape.count }
         ensures { result ≡ level_byte_at self.now.image.now i }
     {
-        crate::node::level_byte(self.image, i)
+        self.image[22 + 8 * i]
     }
 
     pub fn spare(&self, i: usize) -> u8
         requires { i < self.now.shape.count }
         ensures { result ≡ spare_at self.now.image.now i }
     {
-        crate::node::spare(self.image, i)
+        self.image[23 + 8 * i]
     }
 
     pub fn level(&self, i: usize) -> i32

@@ -2,7 +2,7 @@
 ghost use Rattle.std.specs.Prelude.{◌≡◌};
 ghost use Rattle.image.specs.Refusals.{number_of, place_of};
 
-// Where a refusal applies.
+// Where a refusal applies: a record, a pair or none, as document 01 names them.
 #[derive(Clone, Copy, Debug, PartialEq, Eq)]
 pub enum Place {
     None,

@@ -2,13 +2,13 @@
 use mathlib.Core.Path.{◌≡◌, refl, sym, ap, ◌∙◌}
 use mathlib.Core.Logic.{⊎_elim}
 use mathlib.Core.Bool.{Bool, true, false}
-use mathlib.Core.List.{List, map}
-use Prim.Native.Nat.{ℕ, ◌%◌, ◌<◌}
+use mathlib.Core.List.{List, ◌++◌, map}
+use Prim.Native.Nat.{ℕ, ◌%◌, ◌≤◌, ◌<◌}
 use native.Mathlib.Nat.{eq-or-lt_of_le}
 use native.Mathlib.Omega.{arith}
 use lib.Dec.{ltb}
-use lib.ListN.{length, get_or}
-use lib.Seq.{ext_get_or}
+use lib.ListN.{length, get_or, take, drop, length-map, get_or-append}
+use lib.Seq.{ext_get_or, take_at, length_front, length-take-le}
 use borrow.Author.Tests.{ltb-true, ltb-false, lt-ltb, le-ltb}
 use Rattle.std.proofs.lemmas.List.{get_or-map}
 use Rattle.ranking.specs.Sort.{itself, sort_by}
@@ -53,16 +53,22 @@ module _ (xs : List ℕ) (l : Library xs) where
       (λ i j m n. same_order i j (number_in_lem xs m) (number_in_lem xs n))))
 
   -- the number in the i-th of them
-  sorted_number : (i : ℕ) → i < count_of xs → get_or (map (key_at xs) (order_of xs)) i 0 % 65536 ≡ get_or (order_of xs) i 0
-  sorted_number i h =
+  sorted_number : (i : ℕ) (ks : List ℕ) → i < count_of xs → get_or (map (key_at xs) (order_of xs) ++ ks) i 0 % 65536 ≡ get_or (order_of xs) i 0
+  sorted_number i ks h =
       let k : i < length (order_of xs) = omega (arith, order_length xs) in
-      rw (get_or-map (key_at xs) (order_of xs) i 0 0 k) (omega (arith, order_in xs i h, l.layout.count.1))
+      rw (get_or-append (map (key_at xs) (order_of xs)) ks 0 i (rw length-map k), get_or-map (key_at xs) (order_of xs) i 0 0 k)
+      (omega (arith, order_in xs i h, l.layout.count.1))
 
-  -- the keys in place of others, sorted
-  pub keys_ordered : (count : ℕ) (before after : List ℕ) → count ≡ count_of xs → length before ≡ count
-      → after ≡ sort_by itself (each (key_at xs) 0 count)
+  -- the keys put in front of a list, then sorted
+  pub keys_ordered : (count : ℕ) {before put after : List ℕ} → count ≡ count_of xs → count ≤ length before
+      → put ≡ each (key_at xs) 0 count ++ drop count before → after ≡ sort_by itself (take count put) ++ drop count put
       → Ordered xs before after count
-  keys_ordered count before after same long is = record {
-    long = ap length is ∙ sort_length itself (each (key_at xs) 0 count) ∙ each_length (key_at xs) 0 count ∙ sym long;
-    number = λ i h. rw (is, same, sorted_keys) (sorted_number i (omega arith));
+  keys_ordered count {before} {put} {after} same room p q = record {
+    long =
+        ap length q ∙ length_front put (sort_by itself (take count put)) count (sort_length itself (take count put))
+        ∙ ap length p ∙ length_front before (each (key_at xs) 0 count) count (rw (length-take-le count before room) (each_length (key_at xs) 0 count));
+    number = λ i h. rw (q, front, same) (sorted_number i (drop (count_of xs) put) (omega arith));
   }
+    where
+      front : sort_by itself (take count put) ≡ map (key_at xs) (order_of xs)
+      front = rw (p, take_at (each (key_at xs) 0 count) (drop count before) count (each_length (key_at xs) 0 count), same) sorted_keys

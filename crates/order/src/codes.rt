@@ -1,5 +1,5 @@
 // The records of a library in ascending order of code.
-ghost use Rattle.std.specs.Prelude.{◌≡◌, ◌%◌, ◌<◌, length};
+ghost use Rattle.std.specs.Prelude.{◌≡◌, ◌++◌, ◌%◌, ◌≤◌, ◌<◌, length, drop};
 ghost use Rattle.image.specs.Strains.{each};
 ghost use Rattle.order.specs.Key.{key_at};
 ghost use Rattle.order.specs.Ordered.{Ordered};
@@ -24,19 +24,20 @@ pub fn record_of(key: u64) -> usize
 
 // The keys in file order.
 fn put_keys(records: &Records<'_>, keys: &mut [u64])
-    requires { length keys.old ≡ records.now.shape.count }
-    ensures { keys.new ≡ each (key_at records.now.image.now) 0 records.now.shape.count }
+    requires { records.now.shape.count ≤ length keys.old }
+    ensures { keys.new ≡ each (key_at records.now.image.now) 0 records.now.shape.count ++ drop records.now.shape.count keys.old }
 {
-    for (i, place) in keys.iter_mut().enumerate() {
+    let front = &mut keys[..records.shape.count];
+    for (i, place) in front.iter_mut().enumerate() {
         *place = key(records, i);
     }
 }
 
 // The keys in order: `record_of` of the i-th is the number of the i-th record.
 pub fn by_code(library: &Accepted<'_>, keys: &mut [u64])
-    requires { length keys.old ≡ library.now.records.shape.count }
+    requires { library.now.records.shape.count ≤ length keys.old }
     ensures { Ordered library.now.records.image.now keys.old keys.new library.now.records.shape.count }
 {
     put_keys(&library.records, keys);
-    ranking::sort::sort(keys);
+    ranking::sort::sort(keys, library.records.shape.count);
 }

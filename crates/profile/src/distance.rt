@@ -6,6 +6,7 @@ ghost use Rattle.profile.specs.Metric.{metric_number, greatest};
 
 use crate::metric::Metric;
 use crate::source::Profile;
+use crate::well::difference;
 
 // The wells' differences that were met so far, as one number.
 trait Joined {
@@ -76,12 +77,13 @@ fn join<J: Joined, A: Profile + Copy, B: Profile + Copy>(a: A, b: B, wells: usiz
 {
     let mut so_far = J::none();
     for i in 0..wells {
-        so_far = so_far.and(a.well(i).abs_diff(b.well(i)));
+        so_far = so_far.and(difference(a.well(i), b.well(i)));
     }
     so_far
 }
 
-// The distance by a metric. Where it must be fast, it is measured in a task that is written out.
+// The distance by a metric; here alone a metric picks its code. `wells` stands beside the profiles so that a width that is written out reaches the
+// loop. Where it must be fast, it is measured in a task that is written out.
 #[inline(always)]
 #[tactic(auto, unfolding(crate::specs::Distance::distance))]
 pub fn distance<A: Profile + Copy, B: Profile + Copy>(
@@ -99,5 +101,19 @@ pub fn distance<A: Profile + Copy, B: Profile + Copy>(
     match metric {
         Metric::CityBlock => join::<Sum, A, B>(a, b, wells).0,
         Metric::Largest => u32::from(join::<Most, A, B>(a, b, wells).0),
+    }
+}
+
+// The distance by a metric's number, which may be no metric's: then it is 0.
+#[tactic(auto, using(crate::proofs::Distances::distance_other))]
+pub fn by_number<A: Profile + Copy, B: Profile + Copy>(number: u8, a: A, b: B, wells: usize) -> u32
+    requires width { wells ≤ 16 }
+    requires lengths { (length (A.wells a) ≡ wells) × (length (B.wells b) ≡ wells) }
+    ensures exact { result ≡ distance_of number (A.wells a) (B.wells b) }
+    ensures bound { result ≤ 1048560 }
+{
+    match Metric::try_from(number) {
+        Ok(metric) => distance(metric, a, b, wells),
+        Err(_) => 0,
     }
 }

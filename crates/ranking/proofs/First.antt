@@ -1,9 +1,8 @@
 -- The first k of a list, and the running list that has kept them. Assumes nothing.
 use mathlib.Core.Path.{◌≡◌, refl, sym, ap, ◌∙◌}
 use mathlib.Core.Logic.{◌⊎◌, inl, inr}
-use mathlib.Core.List.{List, [], ◌∷◌, ◌++◌, map, foldl-append}
+use mathlib.Core.List.{List, [], ◌∷◌, ◌++◌, map, foldl-append, Memᴰ}
 use mathlib.Core.List.Memᴰ
-use mathlib.Core.List.{Memᴰ}
 use Prim.Native.Nat.{ℕ, zero, suc, min, ◌≤◌}
 use native.Mathlib.Omega.{arith}
 use lib.ListN.{length, take, drop, length-take, take-append-drop}

@@ -7,6 +7,7 @@ pub mod Placed
 pub mod Sorted
 pub mod Permuted
 pub mod Turned
+pub mod Shift
 pub mod First
 pub mod Ranks
 pub mod Running

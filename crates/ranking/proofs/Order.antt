@@ -1,12 +1,12 @@
 -- Lists in ascending order, and lists with no key twice: what their fronts keep, and that members alone decide them. Assumes nothing.
 use mathlib.Core.Path.{◌≡◌, refl, sym, ap, ap₂, ◌∙◌}
 use mathlib.Core.Logic.{◌≢◌}
-use mathlib.Core.List.{List, [], ◌∷◌, ◌++◌}
+use mathlib.Core.List.{List, [], ◌∷◌, ◌++◌, Memᴰ}
 use mathlib.Core.List.Memᴰ
-use mathlib.Core.List.{Memᴰ}
 use Prim.Native.Nat.{ℕ, ◌≤◌}
 use native.Mathlib.Nat.{le_antisymm, le_of_eq}
 use lib.ListN.{take, drop, take-append-drop}
+use lib.Seq.{take-take}
 use Rattle.ranking.specs.Order.{Ascending, Distinct}
 
 module _ {A : Type 0} {key : A → ℕ} where
@@ -17,6 +17,9 @@ module _ {A : Type 0} {key : A → ℕ} where
 
   pub ascending_take : (k : ℕ) {xs : List A} → Ascending key xs → Ascending key (take k xs)
   ascending_take k {xs} up = ascending_front (take k xs) (drop k xs) (rw take-append-drop up)
+
+  pub ascending_fewer : (i j : ℕ) (xs : List A) → i ≤ j → Ascending key (take j xs) → Ascending key (take i xs)
+  ascending_fewer i j xs h up = rw (← take-take i j xs h) (ascending_take i up)
 
   -- and none of its keys exceeds a later one
   pub ascending_below : (xs ys : List A) {a b : A} → Ascending key (xs ++ ys) → Memᴰ a xs → Memᴰ b ys → key a ≤ key b

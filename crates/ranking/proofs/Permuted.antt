@@ -1,10 +1,11 @@
 -- Numbers in ascending order that are a list's in another order: they are that list, sorted. Assumes nothing.
 use mathlib.Core.Path.{◌≡◌, refl, sym, ap, ◌∙◌}
 use mathlib.Core.Bool.{cond}
-use mathlib.Core.List.{List, [], ◌∷◌, Memᴰ}
+use mathlib.Core.List.{List, [], ◌∷◌, ◌++◌, Memᴰ}
 use Prim.Native.Nat.{ℕ, ◌+◌, ◌≤◌, ◌<◌}
 use native.Mathlib.Omega.{arith}
 use lib.Dec.{ltb}
+use lib.ListN.{take, drop}
 use borrow.Author.Tests.{lt-ltb, le-ltb}
 use Rattle.std.specs.List.{sum_by}
 use Rattle.std.specs.List.Sorted.{IsPermutation, IsSorted}
@@ -84,3 +85,8 @@ pub sorted_is : (xs ys : List ℕ) → IsPermutation xs ys → IsSorted nat_cmp 
 sorted_is xs ys moved up =
     one_list (ascending_places ys (IsNonDecreasingBy-from_sort itself ys up)) (sort_ascending itself xs)
     (record { sums = λ f. sum_by-IsPermutation f xs ys moved ∙ sym (sum_sort f xs) })
+
+-- the first of a list, sorted, and the rest as it is
+pub sorted_front : {n to : ℕ} (xs ys : List ℕ) → to ≡ n → IsPermutation (take to xs) ys → IsSorted nat_cmp ys
+    → ys ++ drop to xs ≡ sort_by itself (take n xs) ++ drop n xs
+sorted_front {n} {to} xs ys e moved up = rw (← e) (ap (λ zs. zs ++ drop to xs) (sorted_is (take to xs) ys moved up))

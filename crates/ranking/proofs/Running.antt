@@ -1,11 +1,12 @@
 -- The running list: its bound, what an offer makes of it, and what its fields hold then. Assumes nothing.
-use mathlib.Core.Path.{◌≡◌, sym, ap, ◌∙◌}
-use mathlib.Core.Bool.{true, false}
+use mathlib.Core.Path.{◌≡◌, refl, sym, ap, ◌∙◌}
+use mathlib.Core.Bool.{true, false, ◌||◌}
 use mathlib.Core.List.{List, [], ◌∷◌, ◌++◌, Memᴰ}
 use Prim.Native.Nat.{ℕ, zero, suc, min, ◌+◌, ◌-◌, ◌≤◌, ◌<◌}
 use native.Mathlib.Omega.{arith}
 use lib.ListN.{length, get_or, take, drop, replicate}
 use lib.Seq.{take_all, take-suc, take-take, take-add, take_at, drop_at, get_or-take, length-take-le}
+use lib.Dec.{ltb}
 use borrow.Author.Tests.{ltb-true, ltb-false, lt-ltb, le-ltb, eq-eqb, ne_eqb}
 use Rattle.std.proofs.lemmas.List.{drop-drop, drop-replicate, take-replicate}
 use Rattle.ranking.specs.Sort.{itself, insert}
@@ -163,3 +164,10 @@ module _ {b : Inside} (v : Holds b) (long : length b.ranks ≡ 32) where
 
   pub offer_leaves : (x : ℕ) → enters_in b.asked kept x ≡ false → kept ≡ offered itself b.asked x kept
   offer_leaves x e = sym (offered_out b.asked x kept v.some (omega (arith, kept_length, v.room)) v.ascending e)
+
+  -- the test, by what the fields hold
+  pub enters_is : (x : ℕ) → (ltb b.held b.asked || ltb x (get_or b.ranks (b.asked - 1) 0)) ≡ enters_in b.asked kept x
+  enters_is x =
+      rw kept_length
+      (split b.held b.asked (λ h. rw (lt-ltb b.held b.asked h) refl)
+      (λ h. ap (λ (y : ℕ). ltb b.held b.asked || ltb x y) (sym (get_or-take b.held b.ranks (b.asked - 1) 0 (omega (arith, v.some))))))

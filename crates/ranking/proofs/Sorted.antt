@@ -1,9 +1,8 @@
 -- A list sorted by a key: its members, its order, and what decides it. Assumes nothing.
 use mathlib.Core.Path.{◌≡◌, refl, sym, ap, ◌∙◌}
 use mathlib.Core.Logic.{◌⊎◌, inl, inr}
-use mathlib.Core.List.{List, [], ◌∷◌, ◌++◌, map, map-append, foldl-append}
+use mathlib.Core.List.{List, [], ◌∷◌, ◌++◌, map, map-append, foldl-append, Memᴰ}
 use mathlib.Core.List.Memᴰ
-use mathlib.Core.List.{Memᴰ}
 use Prim.Native.Nat.{ℕ}
 use native.Mathlib.Omega.{arith}
 use lib.Dec.{ltb}
@@ -11,8 +10,7 @@ use lib.ListN.{length, length-append}
 use Rattle.ranking.specs.Sort.{insert, sort_by}
 use Rattle.ranking.specs.Order.{Ascending, Distinct}
 use Rattle.ranking.proofs.Last.{by_last}
-use Rattle.ranking.proofs.Insert.{insert_length, insert_new, insert_old, insert_mem, insert_ascending, insert_distinct}
-use Rattle.ranking.proofs.Insert.{insert_last, insert_same_order, insert_map}
+use Rattle.ranking.proofs.Insert.{insert_length, insert_new, insert_old, insert_mem, insert_ascending, insert_distinct, insert_last, insert_same_order, insert_map}
 use Rattle.ranking.proofs.Order.{ascending_front, ascending_below, distinct_front, distinct_apart, ascending_one}
 
 module _ {A : Type 0} (key : A → ℕ) where

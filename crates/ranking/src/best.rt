@@ -1,6 +1,6 @@
 // The running list: up to 32 best of all that was offered, by distance and then code. It is taken and handed back as each strain is offered, as
 // document 01 asks.
-ghost use Rattle.std.specs.Prelude.{◌≡◌, [], ◌-◌, ◌<◌, length, take};
+ghost use Rattle.std.specs.Prelude.{◌≡◌, false, [], ◌-◌, ◌<◌, length, take};
 ghost use Rattle.ranking.specs.Sort.{itself, insert};
 ghost use Rattle.ranking.specs.Order.{Ascending};
 ghost use Rattle.ranking.specs.First.{offered};
@@ -52,9 +52,10 @@ impl Best {
         }
     }
 
-    // Whether a rank enters the list: it is not full, or its last rank is higher.
+    // Whether a rank enters the list: it is not full, or its last rank is higher. Offering one that does not enter changes nothing.
     pub fn enters(&self, rank: u64) -> bool
-        ensures { result ≡ enters_in self.now.asked self.now.kept rank }
+        ensures tells { result ≡ enters_in self.now.asked self.now.kept rank }
+        ensures stays { result ≡ false → offered itself self.now.asked rank self.now.kept ≡ self.now.kept }
     {
         (self.held < self.asked) | (rank < self.ranks[self.asked - 1])
     }

@@ -1,7 +1,6 @@
 -- The nearest search of one plate: what it has kept, and that the rest of the walk leads to the nearest strains. Assumes nothing.
 use mathlib.Core.Path.{◌≡◌, refl, sym, ap, ◌∙◌, subst}
-use mathlib.Core.List.{List, [], map}
-use mathlib.Core.List.{nil≢cons}
+use mathlib.Core.List.{List, [], map, nil≢cons}
 use Prim.Native.Nat.{ℕ, ◌+◌, ◌*◌, ◌-◌, ◌≤◌, ◌<◌}
 use native.Mathlib.Decide.{ℕ_discrete}
 use native.Mathlib.Omega.{arith}

@@ -1,9 +1,8 @@
 -- The places of a sitting's plates, filled one plate after the other. Assumes nothing.
 use mathlib.Core.Path.{◌≡◌, refl, sym, ap, ◌∙◌, transport}
-use mathlib.Core.List.{List, ◌++◌, map, map-append, append_assoc, append-nil}
+use mathlib.Core.List.{List, ◌++◌, map, map-append, append_assoc, append-nil, Memᴰ}
 use mathlib.Core.Logic.{◌↔◌}
 use mathlib.Core.List.Memᴰ
-use mathlib.Core.List.{Memᴰ}
 use Prim.Native.Nat.{ℕ, zero, suc, ◌+◌, ◌*◌, ◌-◌, ◌≤◌, ◌<◌}
 use native.Mathlib.Nat.{mul_comm, suc-mul, zero-mul, le-div_iff_mul-le}
 use native.Mathlib.Decide.{ℕ_discrete}

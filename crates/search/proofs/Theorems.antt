@@ -2,9 +2,8 @@
 use mathlib.Core.Path.{◌≡◌, refl, sym, ◌∙◌, ap, ap₂}
 use mathlib.Core.Logic.{◌↔◌, ◌⊎◌, inl, inr}
 use mathlib.Core.Bool.{Bool, true, false, ◌||◌}
-use mathlib.Core.List.{List, [], ◌++◌, append_assoc}
+use mathlib.Core.List.{List, [], ◌++◌, append_assoc, Memᴰ}
 use mathlib.Core.List.Memᴰ
-use mathlib.Core.List.{Memᴰ}
 use Prim.Native.Nat.{ℕ, zero, suc, ◌+◌, ◌-◌, ◌*◌, ◌≤◌, ◌<◌, min}
 use native.Mathlib.Nat.{zero-add}
 use native.Mathlib.Omega.{arith}
@@ -40,9 +39,7 @@ use Rattle.search.specs.declared.Tally.{Tally}
 use Rattle.search.specs.Rules.{plate_rules, sitting_rules, radius_rules, within_rules}
 use Rattle.search.specs.Calls.{code_in, distance_in, served, sitting_of, listed, within_of}
 use Rattle.search.proofs.Serves.{nearest_places}
-use Rattle.search.proofs.Lists.{inside_mem, mem_inside, inside_ascending, inside_distinct, inside_append, inside_all}
-use Rattle.search.proofs.Lists.{weighed_distinct, library_codes}
-use Rattle.search.proofs.Lists.{ranked_length, ranked_ascending, ranked_mem, mem_ranked, ranked_codes, ranked_distinct}
+use Rattle.search.proofs.Lists.{inside_mem, mem_inside, inside_ascending, inside_distinct, inside_append, inside_all, weighed_distinct, library_codes, ranked_length, ranked_ascending, ranked_mem, mem_ranked, ranked_codes, ranked_distinct}
 use Rattle.search.proofs.Only.{first_only}
 use Rattle.search.proofs.Scans.{record_strain}
 use Rattle.search.proofs.Outcomes.{granted, image_accepted}

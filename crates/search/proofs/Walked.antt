@@ -1,13 +1,12 @@
 -- What the walk within a radius meets, in order of rank, is what the definition lists. Assumes nothing.
 use mathlib.Core.Path.{◌≡◌, refl, sym, ap, ◌∙◌}
 use mathlib.Core.Bool.{Bool, true, false, cond}
-use mathlib.Core.List.{List, [], ◌∷◌, ◌++◌, map, map-map}
-use mathlib.Core.List.{Memᴰ}
-use Prim.Native.Nat.{ℕ, ◌<◌}
+use mathlib.Core.List.{List, [], ◌∷◌, ◌++◌, map, map-map, Memᴰ}
+use Prim.Native.Nat.{ℕ, ◌≤◌, ◌<◌}
 use lib.Dec.{leb}
 use lib.IntN.{ℤ}
 use lib.ListN.{length, take, drop, length-map}
-use lib.Seq.{take_at}
+use lib.Seq.{take_at, length-take-le}
 use Rattle.ranking.specs.Sort.{itself, sort_by}
 use Rattle.ranking.specs.Found.{Found, rank, distance_of, code_of}
 use Rattle.ranking.proofs.Ranks.{rank_distance, rank_code}
@@ -73,11 +72,12 @@ module _ {xs : List ℕ} (plate : List ℤ) (b : Bytes xs) (l : Library xs) (rad
 
   -- what is met, gathered, sorted and written
   pub gathered_lists : {before ranks sorted codes distances codes' distances' : List ℕ} {tally : Tally} → Gathers xs plate radius before ranks tally
-      → sorted ≡ sort_by itself (take tally.strains ranks)
-      → codes' ≡ map code_of sorted ++ drop (length sorted) codes
-      → distances' ≡ map distance_of sorted ++ drop (length sorted) distances
+      → tally.strains ≤ length ranks
+      → sorted ≡ sort_by itself (take tally.strains ranks) ++ drop tally.strains ranks
+      → codes' ≡ map code_of (take tally.strains sorted) ++ drop (length (take tally.strains sorted)) codes
+      → distances' ≡ map distance_of (take tally.strains sorted) ++ drop (length (take tally.strains sorted)) distances
       → Lists xs plate radius codes distances codes' distances' tally
-  gathered_lists {before} {ranks} {sorted} {codes} {distances} {tally = tally} g isSorted is_codes is_distances = record {
+  gathered_lists {before} {ranks} {sorted} {codes} {distances} {tally = tally} g many isSorted is_codes is_distances = record {
     is_codes = is_codes ∙ part_written code_of code_in near (λ f m. rank_code f (near_code m)) sorted_is codes;
     is_distances = is_distances ∙ part_written distance_of distance_in near (λ f m. rank_distance f (near_code m)) sorted_is distances;
     strains = g.strains ∙ sym near_length;
@@ -93,5 +93,10 @@ module _ {xs : List ℕ} (plate : List ℤ) (b : Bytes xs) (l : Library xs) (rad
           (take_at (map (λ i. rank (found_at xs plate i)) met) (drop tally.strains before) tally.strains
           (length-map met (λ i. rank (found_at xs plate i)) ∙ sym g.strains))
 
-      sorted_is : sorted ≡ map rank near
-      sorted_is = isSorted ∙ ap (sort_by itself) front ∙ ranks_sorted
+      long : length (sort_by itself (take tally.strains ranks)) ≡ tally.strains
+      long = sort_length itself (take tally.strains ranks) ∙ length-take-le tally.strains ranks many
+
+      sorted_is : take tally.strains sorted ≡ map rank near
+      sorted_is =
+          ap (take tally.strains) isSorted ∙ take_at (sort_by itself (take tally.strains ranks)) (drop tally.strains ranks) tally.strains long
+          ∙ ap (sort_by itself) front ∙ ranks_sorted

@@ -8,7 +8,7 @@ use image::accepted::Accepted;
 use walk::laid::Walk;
 use walk::step::Step;
 
-// Their ranks, in the order of the walk.
+// Their ranks, in the order of the walk, in the front of an array: there is no heap.
 fn gather<'a>(walk: &Walk<'a>, plate: &'a [i16], radius: u32, ranks: &mut [u64]) -> Tally
     requires fits { length plate.now ≡ walk.now.library.records.shape.wells }
     requires room { walk.now.library.records.shape.count ≤ length ranks.old }
@@ -43,9 +43,8 @@ fn sorted<'a>(
 {
     let mut ranks = [0; 1024];
     let tally = gather(walk, plate, radius, &mut ranks);
-    let ranks = &mut ranks[..tally.strains];
-    ranking::sort::sort(ranks);
-    crate::put::put(ranks, codes, distances);
+    ranking::sort::sort(&mut ranks, tally.strains);
+    crate::put::put(&ranks[..tally.strains], codes, distances);
     tally
 }
 

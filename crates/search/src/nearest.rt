@@ -16,7 +16,11 @@ pub fn nearest<'a>(walk: &Walk<'a>, plate: &'a [i16], asked: Asked) -> Best
     let mut passage = walk.passage(plate);
     while let Some(met) = passage.next_within(best.bound()) {
         let code = walk.library.records.code(met.node);
-        best = best.offer(ranking::found::rank(met.distance, code));
+        let rank = ranking::found::rank(met.distance, code);
+        // A list is copied when a rank is offered to it, so only what enters is.
+        if best.enters(rank) {
+            best = best.offer(rank);
+        }
     }
     best
 }

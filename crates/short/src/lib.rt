@@ -14,6 +14,7 @@ fn write(out: &mut [u8], codes: &[u32], distances: &[u32])
     requires { (length distances.now ≡ length codes.now) × (8 * length codes.now ≤ length out.old) }
     ensures { out.new ≡ sets out.old 0 (by_turns codes.now distances.now) }
 {
+    // by number, since it gives the place too
     for i in 0..codes.len() {
         writer::number::put_u32(out, 8 * i, codes[i]);
         writer::number::put_u32(out, 8 * i + 4, distances[i]);
@@ -31,13 +32,12 @@ fn serve(library: &Accepted<'_>, plate: &[u8], out: &mut [u8]) -> Result<usize, 
     if out.len() < 40 {
         return Err(Refusal::Room(Place::None));
     }
-    let mut room = [0i16; 16];
-    let values = &mut room[..wells];
-    order::wells::read(plate, 0, values);
+    let mut values = [0i16; 16];
+    order::wells::read(plate, 0, wells, &mut values);
     let mut codes = [0u32; 5];
     let mut distances = [0u32; 5];
     // one plate, five neighbours and room for five: nothing is refused
-    search::sit::sit(library, values, 5, &mut codes, &mut distances).unwrap();
+    search::sit::sit(library, &values[..wells], 5, &mut codes, &mut distances).unwrap();
     write(out, &codes, &distances);
     Ok(40)
 }

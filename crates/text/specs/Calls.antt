@@ -1,10 +1,9 @@
 -- A library listed, and what the listing program prints: the answer and the whole of the lent room, on every input. Assumes nothing.
 use Rattle.std.specs.Prelude.{◌≡◌, List, [], ◌∷◌, ◌++◌, ℕ, ltb, length, drop}
 use Rattle.image.specs.Verdict.{Verdict, accepted, refused, Rule, rule, when, judge}
-use Rattle.image.specs.Answer.{Outcome, outcome, handed}
+use Rattle.image.specs.Answer.{Outcome, outcome, handed, Answered}
 use Rattle.checker.specs.Check.{check_rules, check_of}
 use Rattle.text.specs.Listing.{listing, refused_line}
-use Rattle.image.specs.Answer.{Answered}
 
 -- 1 to 13 on the image, then 16: the room is shorter than 147,456 bytes, which is enough for every listing (`listing_fits`). Document 01 has no
 -- such call; document 02 names the number

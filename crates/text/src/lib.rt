@@ -26,6 +26,6 @@ pub fn print(image: &[u8], page: &mut [u8; 147456]) -> usize
 {
     match list(image, page) {
         Ok(length) => length,
-        Err(refusal) => line::put_refused(page, refusal.number() as u32),
+        Err(refusal) => line::put_refused(page, refusal),
     }
 }

@@ -1,12 +1,14 @@
 // The lines of a listing, written.
 ghost use Rattle.std.specs.Prelude.{◌≤◌, ◌<◌, length};
 ghost use Rattle.profile.specs.Bytes.{wells_at};
+ghost use Rattle.image.specs.Refusals.{number_of};
 ghost use Rattle.text.specs.Cursor.{HasRoom, Appends};
 ghost use Rattle.text.specs.Written.{Written};
 ghost use Rattle.text.specs.Listing.{values_text, header_line, node_text, record_line, refused_line};
 
 use crate::cursor::Cursor;
 use image::accepted::Accepted;
+use image::refusal::Refusal;
 use profile::source::{Profile, Stored};
 
 // Wells, metric, count, and the root's code.
@@ -59,14 +61,14 @@ pub fn put_record(out: &mut Cursor, library: &Accepted<'_>, i: usize)
     out.put(b"\n");
 }
 
-// `refused` and a number, at the front of a room.
+// `refused` and a refusal's number, at the front of a room.
 #[tactic(auto, using(crate::proofs::Writes::writing), unfolding(crate::specs::Listing::refused_line))]
-pub fn put_refused(room: &mut [u8], number: u32) -> usize
-    requires { length (refused_line number) ≤ length room.old }
-    ensures { Written room.old 0 (refused_line number) result room.new }
+pub fn put_refused(room: &mut [u8], refusal: Refusal) -> usize
+    requires { length (refused_line (number_of refusal)) ≤ length room.old }
+    ensures { Written room.old 0 (refused_line (number_of refusal)) result room.new }
 {
     let mut out = Cursor { room, end: 0 };
-    out.put_field(b"refused ", number);
+    out.put_field(b"refused ", refusal.number());
     out.put(b"\n");
     out.end
 }

@@ -3,9 +3,8 @@
 use mathlib.Core.Path.{◌≡◌, refl, ap, ap₂, ◌∙◌}
 use mathlib.Core.Logic.{◌⊎◌, inl, inr}
 use mathlib.Core.Bool.{Bool, true, false, cond}
-use mathlib.Core.List.{List, [], ◌∷◌, ◌++◌, map, map-append}
+use mathlib.Core.List.{List, [], ◌∷◌, ◌++◌, map, map-append, Memᴰ}
 use mathlib.Core.List.Memᴰ
-use mathlib.Core.List.{Memᴰ}
 use Prim.Native.Nat.{ℕ, ◌+◌, ◌*◌, ◌-◌, ◌≤◌, ◌<◌}
 use native.Mathlib.Omega.{arith}
 use lib.ListN.{length, get_or}
@@ -16,9 +15,7 @@ use Rattle.ranking.proofs.Places.{mem_get_or}
 use Rattle.walk.specs.Forest.{Forest, none, grow, nodes, Under}
 use Rattle.walk.specs.Walk.{no_found, worst, Step, measured, passed, record_of, measured_of, passed_of, Reaching, passes, walk, trace}
 use Rattle.ranking.proofs.First.{offers_none, offers_next, offers_append, offered_length, offered_under}
-use Rattle.walk.proofs.Walks.{Coded, Keeping, keeping_offered, keeping_walk, under_worst}
-use Rattle.walk.proofs.Walks.{Each, each_here, each_below, each_behind, CodedIn, coded_in, Reached}
-use Rattle.walk.proofs.Walks.{tells_passes, walk_keeps, passed_far}
+use Rattle.walk.proofs.Walks.{Coded, Keeping, keeping_offered, keeping_walk, under_worst, Each, each_here, each_below, each_behind, CodedIn, coded_in, Reached, tells_passes, walk_keeps, passed_far}
 
 passed_records : (under : ℕ) (kept : List Found) (us : List ℕ) → map record_of (map (passed under kept) us) ≡ us
 passed_records under kept [] = refl

@@ -2,9 +2,8 @@
 use mathlib.Core.Path.{◌≡◌, refl, sym, ap, ◌∙◌}
 use mathlib.Core.Logic.{◌⊎◌, inl, inr}
 use mathlib.Core.Bool.{Bool, true, false, cond}
-use mathlib.Core.List.{List, [], ◌++◌, map, map-append}
+use mathlib.Core.List.{List, [], ◌++◌, map, map-append, Memᴰ}
 use mathlib.Core.List.Memᴰ
-use mathlib.Core.List.{Memᴰ}
 use Prim.Native.Nat.{ℕ, ◌+◌, ◌-◌, ◌≤◌, ◌<◌}
 use native.Mathlib.Omega.{arith}
 use lib.ListN.{length, get_or}
@@ -16,8 +15,7 @@ use Rattle.ranking.proofs.Places.{mem_get_or}
 use Rattle.image.proofs.Tests.{Tells, told_true, told_false, tells_and, tells_eq, tells_lt}
 use Rattle.walk.specs.Forest.{Forest, none, grow, nodes, join, Under}
 use Rattle.walk.specs.Walk.{no_found, worst, Reaching, passes, walk, opens, Passing}
-use Rattle.ranking.proofs.First.{offers_none, offers_next, offers_append, offers_first}
-use Rattle.ranking.proofs.First.{offered_length, offered_ascending, offered_mem, offered_beyond, offers_beyond}
+use Rattle.ranking.proofs.First.{offers_none, offers_next, offers_append, offers_first, offered_length, offered_ascending, offered_mem, offered_beyond, offers_beyond}
 use Rattle.walk.proofs.Offered.{under_last, offered_new}
 
 -- codes have 32 bits

@@ -4,7 +4,7 @@ ghost use Rattle.walk.specs.Links.{Linked};
 
 use image::accepted::Accepted;
 
-// A record's number, or none. An Option takes four bytes in place of two, and then a sitting would need more stack than a call has.
+// A record's number, or none. An Option takes four bytes in place of two: 4 KiB of stack more for each search. What reads a link gets an Option.
 #[derive(Clone, Copy)]
 pub struct Link(u16);
 

@@ -129,9 +129,9 @@ struct Stretch<'a> {
 // Where it ends: at a record within the bound, or behind all.
 #[derive(Clone, Copy)]
 struct Stop {
-    place: usize,
+    place: usize, // the count where no record is within the bound; `next_within` makes an Option of it
     measured: usize,
-    distance: u32, // of the record that was measured last
+    distance: u32, // of the record that was measured last; an Option of it in the loop took a third longer at 4 wells
 }
 
 impl Task for Stretch<'_> {

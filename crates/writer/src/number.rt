@@ -1,4 +1,4 @@
-// Little-endian numbers, written.
+// Little-endian numbers, written. `to_le_bytes` is a method of each width's type, so that one function for both would be longer.
 ghost use Rattle.std.specs.Prelude.{◌≡◌, ◌+◌, ◌≤◌, length};
 ghost use Rattle.std.proofs.lemmas.List.Edits.{sets};
 ghost use Rattle.content.specs.Bytes.{bytes16, bytes32};

@@ -3,9 +3,9 @@ use mathlib.Core.Path.{◌≡◌, refl, ◌∙◌, ap}
 use Prim.Native.Nat.{◌*◌, ◌<◌, ◌≤◌}
 use native.Mathlib.Omega.{arith}
 use mathlib.Core.List.{List}
-use lib.IntN.{ℤ, pos}
-use lib.ListN.{length, replicate}
-use lib.Seq.{length-take-le}
+use lib.IntN.{ℤ}
+use lib.ListN.{length, take, replicate}
+use lib.Seq.{take_at}
 use Rattle.search.specs.Ranked.{nearest, places}
 use Rattle.search.specs.Calls.{code_in, distance_in}
 use Rattle.profile.specs.Bytes.{wells_at}
@@ -25,12 +25,10 @@ fits : (c : Else-plate-wells) → length c.args.plate.now ≡ 2 * wells_of c.arg
 fits c = omega (arith, c.if-plate-wells.false, c.args.library.now.is_wells)
 
 -- the plate was read
-plate-read : (c : After-sit) → c.read.new.profile ≡ wells_at c.args.plate.now 0 (wells_of c.args.library.now.records.image.now)
+plate-read : (c : After-sit) → take c.args.library.now.records.shape.wells c.read.new.profile ≡ wells_at c.args.plate.now 0 (wells_of c.args.library.now.records.image.now)
 plate-read c =
-    c.read.ensures ∙ ap (wells_at c.args.plate.now 0) (length-take-le _ _ few ∙ c.args.library.now.is_wells)
-  where
-    few : c.args.library.now.records.shape.wells ≤ length {A = ℤ} (replicate 16 (pos 0))
-    few = omega (arith, c.args.library.now.records.shape.wells_high)
+    let plate = c.args.plate.now in let wells = c.args.library.now.records.shape.wells in
+    ap (take wells) c.read.ensures ∙ take_at (wells_at plate 0 wells) _ wells (wells_length plate 0 wells) ∙ ap (wells_at plate 0) c.args.library.now.is_wells
 
 pub returns-then-plate-wells : goal.returns-then-plate-wells
 unfolding served_of

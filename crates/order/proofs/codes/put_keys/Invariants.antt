@@ -6,4 +6,4 @@ use Rattle.order.specs.Key.{key_at}
 use Rattle.order.proofs.codes.put_keys.Given as goal
 
 abbrev pub invariant-loop-i : goal.invariant-loop-i
-invariant-loop-i l = (k : ℕ) → k < l.i → get_or l.keys k 0 ≡ key_at l.records.image.now k
+invariant-loop-i l = (k : ℕ) → k < l.i → get_or l.front k 0 ≡ key_at l.records.image.now k

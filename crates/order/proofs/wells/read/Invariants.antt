@@ -7,4 +7,4 @@ use Rattle.profile.specs.Bytes.{well_at}
 use Rattle.order.proofs.wells.read.Given as goal
 
 abbrev pub invariant-loop-i : goal.invariant-loop-i
-invariant-loop-i l = (k : ℕ) → k < l.i → get_or l.profile k (pos 0) ≡ well_at l.image (l.at + 2 * k)
+invariant-loop-i l = (k : ℕ) → k < l.i → get_or l.front k (pos 0) ≡ well_at l.image (l.at + 2 * k)

@@ -4,6 +4,9 @@ use native.Mathlib.Omega.{arith}
 use borrow.Author.Rules.{rules}
 use lib.IntN.{pos}
 use lib.ListN.{drop}
+use mir.Syntax.{w16}
+use mir.Val.{SFits}
+use mir.ValLaws.{to_z-of_z}
 use Rattle.profile.specs.Distance.{gap, joined}
 use Rattle.profile.proofs.Distances.{joined_step, joined_end}
 use Rattle.profile.proofs.distance.join.Goals as goal
@@ -13,8 +16,10 @@ unfolding gap
 loop-i-preserved g c =
     let j = g.J.Joined in let law = g.met.J.Joined.laws in
     let a = g.A.Profile.wells c.args.a in let b = g.B.Profile.wells c.args.b in let i = c.loop-i.i in
-    let d = c.abs_diff.result in
-    let is_gap : d ≡ gap c.well.result c.well-in-loop-i.result = search rules in
+    let d = c.difference.result in
+    let hx : SFits w16 c.well.result = search rules in
+    let hy : SFits w16 c.well-in-loop-i.result = search rules in
+    let is_gap : d ≡ gap c.well.result c.well-in-loop-i.result = simp to_z-of_z at c.difference.ensures in
     let so_far = j.so_far c.loop-i.so_far in let rest = joined j.op (drop (i + 1) a) (drop (i + 1) b) in
     let met = joined_step j.op i a b (pos 0) (omega arith) (omega arith) in (
       omega arith,

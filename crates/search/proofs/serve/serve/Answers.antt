@@ -1,8 +1,7 @@
 use mathlib.Core.Path.{◌∙◌, ap}
 use Prim.Native.Nat.{◌*◌}
 use native.Mathlib.Omega.{arith}
-use Rattle.search.proofs.Serves.{Taken, left_all, left_more, left_none, serving_none, serving_more, serving_all}
-use Rattle.search.proofs.Serves.{turn_room}
+use Rattle.search.proofs.Serves.{Taken, left_all, left_more, left_none, serving_none, serving_more, serving_all, turn_room}
 use Rattle.search.proofs.serve.serve.Goals as goal
 use Rattle.search.proofs.serve.serve.Goals.{In-Some}
 

@@ -1,7 +1,7 @@
 -- `Best::let_in` meets its contract: the rank goes in behind the list, or for its last, or not at all. Assumes nothing.
 use mathlib.Core.Path.{ap, sym, ◌∙◌}
 use Rattle.ranking.specs.Best.{best_of}
-use Rattle.ranking.proofs.Running.{front_ascending, offer_holds, offer_takes, offer_leaves}
+use Rattle.ranking.proofs.Running.{front_ascending, offer_holds, offer_takes}
 use Rattle.ranking.proofs.best.Best.let_in.Goals as goal
 
 pub put_in-requires-clause-ascending : goal.put_in-requires-clause-ascending
@@ -12,12 +12,11 @@ invariant_of-self c = offer_holds c.self.invariant c.self.told c.args.rank c.min
 
 pub returns-then-enters : goal.returns-then-enters
 returns-then-enters c =
-    let entered = rw (← c.self.view_is) at (sym c.enters.ensures ∙ c.if-enters.true) in
+    let entered = rw (← c.self.view_is) at (sym c.enters.ensures.tells ∙ c.if-enters.true) in
     rw (← c.self.view_is)
     (ap (best_of c.self.inside.asked)
     (offer_takes c.self.invariant c.self.told c.args.rank c.min-held.ensures c.put_in.ensures entered))
 
 pub returns-else-enters : goal.returns-else-enters
 returns-else-enters c =
-    let stays = rw (← c.self.view_is) at (sym c.enters.ensures ∙ c.if-enters.false) in
-    rw (← c.self.view_is) (ap (best_of c.self.inside.asked) (offer_leaves c.self.invariant c.self.told c.args.rank stays))
+    ap (best_of c.args.self.now.asked) (sym (c.enters.ensures.stays c.if-enters.false))
