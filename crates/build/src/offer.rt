@@ -11,7 +11,7 @@ use adding::takers::Takers;
 use image::accepted::Accepted;
 use image::refusal::{Place, Refusal};
 
-// The first record with this code.
+// The first record with this code. The chain is that of the check's rules on records, and stays for their reason.
 fn first_taken(library: &Accepted<'_>, code: u32) -> Option<Place>
     ensures { result ≡ at_first (count_of library.now.records.image.now) (code_taken library.now.records.image.now code) }
 {

@@ -16,7 +16,8 @@ impl<'a> Noded<'a> {
         i != self.headed.root && self.cover_limit(i) < self.headed.apart(self.parent(i), i)
     }
 
-    // The first record at which it fails.
+    // The first record at which it fails. The chain is two calls of the library, and stands in each such rule: a function for both would only
+    // hand on what its test said.
     pub fn bad_cover(&self) -> Option<Place>
         ensures { result ≡ at_first (count_of self.now.headed.records.image.now) (bad_cover self.now.headed.records.image.now) }
     {

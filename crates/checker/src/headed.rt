@@ -18,7 +18,7 @@ pub struct Headed<'a> {
 }
 
 impl<'a> Headed<'a> {
-    // The distance of two records.
+    // The distance of two records. `bound` is said wherever a distance is handed on, as callers add and compare it as a number.
     #[inline(always)]
     #[tactic(auto, unfolding(image::specs::Fields::profile_at, image::specs::Fields::distance_at), using(profile::proofs::Reading::wells_length))]
     pub fn apart(&self, i: usize, j: usize) -> u32

@@ -21,7 +21,8 @@ impl<'a> Noded<'a> {
         }
     }
 
-    // The first record at which it fails.
+    // The first record at which it fails. The chain is two calls of the library, and stands in each such rule: a function for both would only
+    // hand on what its test said.
     pub fn bad_level(&self) -> Option<Place>
         ensures { result ≡ at_first (count_of self.now.headed.records.image.now) (bad_level self.now.headed.records.image.now) }
     {

@@ -19,7 +19,8 @@ impl<'a> Headed<'a> {
             || self.records.spare(i) != 0
     }
 
-    // The first record at which it fails.
+    // The first record at which it fails. The chain is two calls of the library, and stands in each such rule: a function for both would only
+    // hand on what its test said.
     pub fn bad_node(&self) -> Option<Place>
         ensures { result ≡ at_first (count_of self.now.records.image.now) (bad_node self.now.records.image.now) }
     {

@@ -48,7 +48,8 @@ fn sorted<'a>(
     tally
 }
 
-// Lays out the tree, and lists them.
+// Lays out the tree, and lists them. Codes and distances are two lent slices, as the C interface has them, with room in each; every function hands
+// both on as they are.
 pub fn list(
     library: &Accepted<'_>,
     plate: &[i16],

@@ -53,7 +53,7 @@ impl<'a> Walk<'a> {
         }
     }
 
-    // From the first place on, for a plate of as many wells as the strains have.
+    // From the first place on, for a plate of as many wells as the strains have. The searches ask for that too: they have no passage before.
     pub fn passage(&self, plate: &'a [i16]) -> Passage<'a>
         requires { length plate.now ≡ self.now.library.records.shape.wells }
         ensures walk { result.walk ≡ self.now }

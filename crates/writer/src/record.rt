@@ -9,7 +9,7 @@ ghost use Rattle.content.specs.Bytes.{level_byte_of, node_bytes, profile_bytes};
 use crate::number::{put_u16, put_u32};
 use image::shape::Shape;
 
-// The level of record i.
+// The level of record i, of an image that is lent to be written: so it asks for the record's bytes in a clause.
 pub fn put_level(image: &mut [u8], i: usize, level: i32)
     requires { (24 + 8 * i ≤ length image.old) × (negsuc 0 ≤ℤ level) × (level ≤ℤ pos 20) }
     ensures { image.new ≡ set image.old (22 + 8 * i) (level_byte_of level) }
