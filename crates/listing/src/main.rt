@@ -8,10 +8,11 @@ ghost use Rattle.std.specs.Prelude.{◌≤◌, length};
 use std::io::Read;
 
 fn main(rt: HostRuntime) {
+    // in front of the reading, since the compiler clears it twice where it stands behind
+    let mut page = [0u8; 147456];
     // one byte more than an image may have: what is longer is refused
     let mut input = [0u8; 40977];
     let length = read_full(&mut rt.stdin(), &mut input);
-    let mut page = [0u8; 147456];
     let end = text::print(&input[..length], &mut page);
     let _ = rt.write_all(&page[..end]);
 }

@@ -105,8 +105,9 @@ pub fn distance<A: Profile + Copy, B: Profile + Copy>(
 }
 
 // The distance by a metric's number, which may be no metric's: then it is 0.
+#[inline(always)]
 #[tactic(auto, using(crate::proofs::Distances::distance_other))]
-pub fn by_number<A: Profile + Copy, B: Profile + Copy>(number: u8, a: A, b: B, wells: usize) -> u32
+fn at_width<A: Profile + Copy, B: Profile + Copy>(number: u8, a: A, b: B, wells: usize) -> u32
     requires width { wells ≤ 16 }
     requires lengths { (length (A.wells a) ≡ wells) × (length (B.wells b) ≡ wells) }
     ensures exact { result ≡ distance_of number (A.wells a) (B.wells b) }
@@ -115,5 +116,20 @@ pub fn by_number<A: Profile + Copy, B: Profile + Copy>(number: u8, a: A, b: B, w
     match Metric::try_from(number) {
         Ok(metric) => distance(metric, a, b, wells),
         Err(_) => 0,
+    }
+}
+
+// The same, with the usual widths written out, as its callers have no loop of their own to write them out above.
+pub fn by_number<A: Profile + Copy, B: Profile + Copy>(number: u8, a: A, b: B, wells: usize) -> u32
+    requires width { wells ≤ 16 }
+    requires lengths { (length (A.wells a) ≡ wells) × (length (B.wells b) ≡ wells) }
+    ensures exact { result ≡ distance_of number (A.wells a) (B.wells b) }
+    ensures bound { result ≤ 1048560 }
+{
+    match wells {
+        16 => at_width(number, a, b, 16),
+        8 => at_width(number, a, b, 8),
+        4 => at_width(number, a, b, 4),
+        _ => at_width(number, a, b, wells),
     }
 }

@@ -6,8 +6,8 @@ pub mod Places
 pub mod Placed
 pub mod Sorted
 pub mod Permuted
-pub mod Turned
 pub mod Shift
 pub mod First
 pub mod Ranks
+pub mod Fields
 pub mod Running

@@ -1,16 +1,11 @@
 -- Lists in ascending order, as the library's sort and its search say it: by their places. Assumes nothing.
-use mathlib.Core.Path.{◌≡◌, ap}
-use mathlib.Core.Bool.{true, false}
-use mathlib.Core.List.{List, [], ◌∷◌, ◌++◌}
+use mathlib.Core.Path.{◌≡◌}
+use mathlib.Core.List.{List, [], ◌∷◌}
 use Prim.Native.Nat.{ℕ, zero, suc, ◌≤◌, ◌<◌}
 use native.Mathlib.Omega.{arith}
-use lib.Dec.{leb}
-use lib.ListN.{length, get_or, take, drop}
-use borrow.Author.Tests.{leb-true, leb-false}
-use Rattle.std.specs.List.Sorted.{IsNonDecreasingBy, IsPartitionPoint}
-use Rattle.ranking.specs.Sort.{itself, insert}
+use lib.ListN.{length, get_or}
+use Rattle.std.specs.List.Sorted.{IsNonDecreasingBy}
 use Rattle.ranking.specs.Order.{Ascending}
-use Rattle.ranking.proofs.Insert.{insert_before, insert_after}
 use Rattle.ranking.proofs.Places.{mem_get_or, get_or_mem}
 
 module _ {A : Type 0} {key : A → ℕ} where
@@ -29,15 +24,3 @@ module _ {A : Type 0} {key : A → ℕ} where
     where
       above : (y : A) → (i : ℕ) × (i < length xs) × (get_or xs i x ≡ y) → key x ≤ key y
       above y p = rw p.2 at (up 0 (suc p.0) x (omega arith) (omega (arith, p.1)))
-
--- a number put in among numbers in order, by its place: those before it do not exceed it, those behind it do
-pub insert_at : (x : ℕ) (xs : List ℕ) (at : ℕ) → at ≤ length xs → IsPartitionPoint (λ y. leb y x ≡ true) (λ y. leb y x ≡ false) xs at
-    → insert itself x xs ≡ take at xs ++ x ∷ drop at xs
-unfolding insert
-insert_at x [] at h p = let e : at ≡ 0 = omega arith in rw e
-insert_at x (y ∷ ys) zero h p = insert_before itself x y ys (leb-false y x (p.1 0 0 (omega arith) (omega arith)))
-insert_at x (y ∷ ys) (suc at) h p =
-    rw (insert_after itself x y ys (leb-true y x (p.0 0 0 (omega arith) (omega arith))))
-    (ap (λ (zs : List ℕ). y ∷ zs)
-    (insert_at x ys at (omega arith)
-    (λ k d low high. p.0 (suc k) d (omega arith) (omega arith), λ k d low high. p.1 (suc k) d (omega arith) (omega arith))))

@@ -1,14 +1,14 @@
 -- The running list: its bound, what an offer makes of it, and what its fields hold then. Assumes nothing.
 use mathlib.Core.Path.{◌≡◌, refl, sym, ap, ◌∙◌}
-use mathlib.Core.Bool.{true, false, ◌||◌}
+use mathlib.Core.Bool.{true, false, cond, ◌||◌}
 use mathlib.Core.List.{List, [], ◌∷◌, ◌++◌, Memᴰ}
 use Prim.Native.Nat.{ℕ, zero, suc, min, ◌+◌, ◌-◌, ◌≤◌, ◌<◌}
 use native.Mathlib.Omega.{arith}
-use lib.ListN.{length, get_or, take, drop, replicate}
-use lib.Seq.{take_all, take-suc, take-take, take-add, take_at, drop_at, get_or-take, length-take-le}
+use lib.ListN.{length, get_or, take, drop, set, replicate, length-drop}
+use lib.Seq.{take_all, take-suc, take-take, take-set-le, take-add, take_at, drop_at, get_or-take, length-take-le}
 use lib.Dec.{ltb}
 use borrow.Author.Tests.{ltb-true, ltb-false, lt-ltb, le-ltb, eq-eqb, ne_eqb}
-use Rattle.std.proofs.lemmas.List.{drop-drop, drop-replicate, take-replicate}
+use Rattle.std.proofs.lemmas.List.{length-append, drop-drop, drop-replicate, take-replicate}
 use Rattle.ranking.specs.Sort.{itself, insert}
 use Rattle.ranking.specs.Order.{Ascending}
 use Rattle.ranking.specs.Found.{distance_of}
@@ -20,6 +20,8 @@ use Rattle.ranking.proofs.Order.{ascending_take}
 use Rattle.ranking.proofs.Places.{get_or_mem}
 use Rattle.ranking.proofs.Placed.{places_ascend}
 use Rattle.ranking.proofs.First.{offered_beyond}
+use Rattle.ranking.proofs.Shift.{put_at, put_set}
+use Rattle.ranking.proofs.Fields.{fields_back}
 
 -- ---- the bound
 
@@ -110,57 +112,72 @@ module _ {b : Inside} (v : Holds b) (long : length b.ranks ≡ 32) where
       let zeros = take-replicate {X = ℕ} (b.asked - b.held) (32 - b.held) 0 (omega (arith, v.most)) in
       rw kept_length (rw (e, v.zeros, zeros) at (take-add b.held (b.asked - b.held) b.ranks))
 
-  pub bound_open : b.held < b.asked → 4294967295 ≡ bound_of b.asked kept
+  bound_open : b.held < b.asked → 4294967295 ≡ bound_of b.asked kept
   bound_open h = sym (bound_room b.asked kept (omega (arith, kept_length)))
 
-  pub bound_last : b.asked ≤ b.held → distance_of (get_or b.ranks (b.asked - 1) 0) ≡ bound_of b.asked kept
+  bound_last : b.asked ≤ b.held → distance_of (get_or b.ranks (b.asked - 1) 0) ≡ bound_of b.asked kept
   bound_last h =
       ap distance_of (sym (get_or-take b.held b.ranks (b.asked - 1) 0 (omega (arith, v.some))))
       ∙ sym (bound_full b.asked kept (omega (arith, kept_length, v.room)))
+
+  -- the bound, by what the fields hold
+  pub bound_is : cond (ltb b.held b.asked) 4294967295 (distance_of (get_or b.ranks (b.asked - 1) 0)) ≡ bound_of b.asked kept
+  bound_is = split b.held b.asked (λ h. rw (lt-ltb b.held b.asked h) (bound_open h)) (λ h. rw (le-ltb b.held b.asked h) (bound_last h))
 
   -- a rank is offered, and n places hold one then
   module _ (x : ℕ) {n : ℕ} (is : n ≡ min b.asked (b.held + 1)) where
     few : (n ≤ 32) × (1 ≤ n) × (n ≤ b.held + 1)
     few = (omega (arith, v.most), omega (arith, v.some), omega arith)
 
-    front_is : take (length (take n b.ranks) - 1) (take n b.ranks) ≡ take (n - 1) kept
-    front_is =
-        let l : length (take n b.ranks) ≡ n = length-take-le n b.ranks (omega (arith, few.0)) in
-        rw l (take-take (n - 1) n b.ranks (omega arith) ∙ sym (take-take (n - 1) b.held b.ranks (omega (arith, few.2))))
+    front_is : take (n - 1) b.ranks ≡ take (n - 1) kept
+    front_is = sym (take-take (n - 1) b.held b.ranks (omega (arith, few.2)))
 
-    pub front_ascending : Ascending itself (take (length (take n b.ranks) - 1) (take n b.ranks))
-    front_ascending = rw front_is (ascending_take (n - 1) v.ascending)
+    -- the rank is stored behind the others
+    pub front_ascending : Ascending itself (take (n - 1) (set b.ranks (n - 1) x))
+    front_ascending = rw (take-set-le (n - 1) b.ranks (n - 1) x (omega arith), front_is) (ascending_take (n - 1) v.ascending)
 
-    module _ {part : List ℕ} (put : part ≡ insert itself x (take (length (take n b.ranks) - 1) (take n b.ranks))) where
-      part_is : part ≡ insert itself x (take (n - 1) kept)
-      part_is = put ∙ ap (insert itself x) front_is
+    abbrev part : List ℕ
+    part = insert itself x (take (n - 1) kept)
 
-      part_length : length part ≡ n
-      part_length =
-          ap length part_is
-          ∙ insert_length itself x (take (n - 1) kept)
-          ∙ ap suc (length-take-le (n - 1) kept (omega (arith, few.2, kept_length)))
-          ∙ omega (arith, few.1)
+    part_length : length part ≡ n
+    part_length =
+        insert_length itself x (take (n - 1) kept)
+        ∙ ap suc (length-take-le (n - 1) kept (omega (arith, few.2, kept_length)))
+        ∙ omega (arith, few.1)
 
-      front : take n (part ++ drop n b.ranks) ≡ part
-      front = take_at part (drop n b.ranks) n part_length
+    front : take n (part ++ drop n b.ranks) ≡ part
+    front = take_at part (drop n b.ranks) n part_length
 
-      pub offer_holds : Holds (record { ranks = part ++ drop n b.ranks; held = n; asked = b.asked })
-      offer_holds = record {
-        some = v.some;
-        most = v.most;
-        room = omega arith;
-        ascending = rw (front, part_is) (insert_ascending itself x (ascending_take (n - 1) v.ascending));
-        zeros = drop_at part (drop n b.ranks) n part_length ∙ zeros_behind;
-      }
-        where
-          zeros_behind : drop n b.ranks ≡ replicate (32 - n) 0
-          zeros_behind = behind n (omega (arith, v.room))
+    part_zeros : drop n (part ++ drop n b.ranks) ≡ replicate (32 - n) 0
+    part_zeros = drop_at part (drop n b.ranks) n part_length ∙ behind n (omega (arith, v.room))
 
-      pub offer_takes : enters_in b.asked kept x ≡ true → take n (part ++ drop n b.ranks) ≡ offered itself b.asked x kept
+    part_long : length (part ++ drop n b.ranks) ≡ 32
+    part_long = length-append part (drop n b.ranks) ∙ omega (arith, part_length, length-drop n b.ranks, few.0, long)
+
+    part_holds : Holds (record { ranks = part ++ drop n b.ranks; held = n; asked = b.asked })
+    part_holds = record {
+      form = fields_back (omega (arith, few.0)) part_long part_zeros;
+      some = v.some;
+      most = v.most;
+      room = omega arith;
+      ascending = rw front (insert_ascending itself x (ascending_take (n - 1) v.ascending));
+      zeros = part_zeros;
+    }
+
+    -- and put in among them
+    module _ {ranks : List ℕ} (put : ranks ≡ put_at (get_or (set b.ranks (n - 1) x) (n - 1) 0) (n - 1) (set b.ranks (n - 1) x)) where
+      put_is : ranks ≡ part ++ drop n b.ranks
+      put_is =
+          let e : n - 1 + 1 ≡ n = omega (arith, few.1) in
+          put ∙ put_set x (n - 1) b.ranks (omega (arith, few.0, few.1, long)) ∙ rw (front_is, e) refl
+
+      pub offer_holds : Holds (record { ranks = ranks; held = n; asked = b.asked })
+      offer_holds = rw put_is part_holds
+
+      pub offer_takes : enters_in b.asked kept x ≡ true → take n ranks ≡ offered itself b.asked x kept
       offer_takes e =
           let q : min b.asked (length kept + 1) ≡ n = omega (arith, kept_length) in
-          front ∙ part_is ∙ sym (rw q at (offered_in b.asked x kept v.some (omega (arith, kept_length, v.room)) e))
+          ap (take n) put_is ∙ front ∙ sym (rw q at (offered_in b.asked x kept v.some (omega (arith, kept_length, v.room)) e))
 
   pub offer_leaves : (x : ℕ) → enters_in b.asked kept x ≡ false → kept ≡ offered itself b.asked x kept
   offer_leaves x e = sym (offered_out b.asked x kept v.some (omega (arith, kept_length, v.room)) v.ascending e)

@@ -15,8 +15,13 @@ best_of k kept = record { asked = k; kept = kept }
 abbrev pub held_in : Inside → Running
 held_in b = best_of b.asked (take b.held b.ranks)
 
+-- the fields that hold a list: a running list gives them back, so that it may be copied
+abbrev pub fields_of : Running → Inside
+fields_of r = record { ranks = r.kept ++ replicate (32 - length r.kept) 0; held = length r.kept; asked = r.asked }
+
 -- what holds of the fields: the list is in order and not longer than it may be, and 0 stands behind it
 pub record Holds (b : Inside) : Type 0 where
+  pub form : fields_of (held_in b) ≡ b
   pub some : 1 ≤ b.asked
   pub most : b.asked ≤ 32
   pub room : b.held ≤ b.asked

@@ -1,19 +1,38 @@
 // The running list: up to 32 best of all that was offered, by distance and then code. It is taken and handed back as each strain is offered, as
 // document 01 asks.
-ghost use Rattle.std.specs.Prelude.{◌≡◌, false, [], ◌-◌, ◌<◌, length, take};
-ghost use Rattle.ranking.specs.Sort.{itself, insert};
-ghost use Rattle.ranking.specs.Order.{Ascending};
+ghost use Rattle.std.specs.Prelude.{◌≡◌, false, cond, ◌||◌, [], ltb};
+ghost use Rattle.ranking.specs.Sort.{itself};
 ghost use Rattle.ranking.specs.First.{offered};
+ghost use Rattle.ranking.specs.Found.{distance_of};
 ghost use Rattle.ranking.specs.Best.{best_of, enters_in, bound_of, places_of};
 
 use crate::asked::Asked;
+use crate::sort::put_in;
 use std::marker::Model;
 
-#[derive(Drop)]
+#[derive(Clone, Copy)]
 pub struct Best {
     ranks: [u64; 32], // `held` ranks in ascending order, and 0 behind them
     held: usize,
     asked: usize,
+}
+
+// What lies further than this is not kept: the distance of the last of those asked for, once they are held.
+pub fn bound(held: usize, asked: usize, last: u64) -> u32
+    ensures { result ≡ cond (ltb held asked) 4294967295 (distance_of last) }
+{
+    if held < asked {
+        u32::MAX
+    } else {
+        crate::found::distance_of(last)
+    }
+}
+
+// Whether a rank enters a list: it is not full, or its last rank is higher.
+pub fn enters(held: usize, asked: usize, last: u64, rank: u64) -> bool
+    ensures { result ≡ (ltb held asked || ltb rank last) }
+{
+    (held < asked) | (rank < last)
 }
 
 // Clauses see the ranks that are kept, and how many are asked for.
@@ -22,23 +41,15 @@ impl Model for Best {
 
     ghost Value = { Running };
 
-    ghost use Rattle.ranking.specs.Best.{held_in, Holds};
+    ghost use Rattle.ranking.specs.Best.{held_in, fields_of, Holds};
 
     ghost view = { held_in };
 
     ghost invariant = { Holds };
-}
 
-// Puts a rank in among those before the last, which are in order, and the last goes.
-fn put_in(ranks: &mut [u64], rank: u64)
-    requires some { 0 < length ranks.old }
-    requires ascending { Ascending itself (take (length ranks.old - 1) ranks.old) }
-    ensures { ranks.new ≡ insert itself rank (take (length ranks.old - 1) ranks.old) }
-{
-    let last = ranks.len() - 1;
-    let at = ranks[..last].partition_point(|other| *other <= rank);
-    ranks[at..].rotate_right(1);
-    ranks[at] = rank;
+    ghost inverse = { fields_of };
+
+    ghost inverse_ok = { λ _ held. held.form };
 }
 
 impl Best {
@@ -52,23 +63,19 @@ impl Best {
         }
     }
 
-    // Whether a rank enters the list: it is not full, or its last rank is higher. Offering one that does not enter changes nothing.
+    // Whether a rank enters this list. Offering one that does not enter changes nothing.
     pub fn enters(&self, rank: u64) -> bool
         ensures tells { result ≡ enters_in self.now.asked self.now.kept rank }
         ensures stays { result ≡ false → offered itself self.now.asked rank self.now.kept ≡ self.now.kept }
     {
-        (self.held < self.asked) | (rank < self.ranks[self.asked - 1])
+        enters(self.held, self.asked, self.ranks[self.asked - 1], rank)
     }
 
-    // What lies further than this is not kept: the distance of the last of those asked for, once they are held.
+    // The bound of this list.
     pub fn bound(&self) -> u32
         ensures { result ≡ bound_of self.now.asked self.now.kept }
     {
-        if self.held < self.asked {
-            u32::MAX
-        } else {
-            crate::found::distance_of(self.ranks[self.asked - 1])
-        }
+        bound(self.held, self.asked, self.ranks[self.asked - 1])
     }
 
     // Lets a strain's rank in, if the list has room or holds a higher rank, which then goes.
@@ -77,7 +84,8 @@ impl Best {
     {
         if self.enters(rank) {
             let held = self.asked.min(self.held + 1);
-            put_in(&mut self.ranks[..held], rank);
+            self.ranks[held - 1] = rank;
+            put_in(&mut self.ranks, held - 1);
             self.held = held;
         }
     }

@@ -1,16 +1,16 @@
 -- The laws of numbers in decimal: they are what std prints, and how long they are. Assumes nothing.
 use mathlib.Core.Path.{◌≡◌, refl, sym, ◌∙◌, ap}
 use mathlib.Core.List.{[], ◌∷◌, ◌++◌}
-use Prim.Native.Nat.{ℕ, zero, suc, ◌/◌, ◌%◌, ◌^◌, ◌≤◌, ◌<◌}
+use Prim.Native.Nat.{ℕ, zero, suc, ◌+◌, ◌/◌, ◌%◌, ◌^◌, ◌≤◌, ◌<◌}
 use native.Mathlib.Omega.{arith}
 use borrow.Author.Tests.{lt-ltb, le-ltb}
 use lib.IntN.{ℤ, pos, negsuc, nat_abs}
 use lib.ListN.{length, length-append}
 use mir.Syntax.{w16, w32}
-use mir.Val.{SFits, to_z, of_z}
-use mir.ValLaws.{to_z-of_z}
+use mir.Val.{SFits}
 use Rattle.std.specs.Fmt as std
 use Rattle.std.proofs.lemmas.Fmt.{decimal_from_appends, length-decimal-le}
+use Rattle.itoa.proofs.Decimal.{length_one, length_two, length_pair, length_four}
 use Rattle.profile.proofs.Signs.{wider}
 use Rattle.ranking.proofs.Insert.{split}
 use Rattle.text.specs.Decimal.{digit, digits_in, decimal, signed_decimal}
@@ -54,12 +54,26 @@ abs_32 (negsuc n) f = omega (arith, f.sfits)
 pub abs_16 : (z : ℤ) → SFits w16 z → nat_abs z < 2 ^ 32
 abs_16 z f = abs_32 z (wider tt f)
 
--- of a signed number as the code holds it
-pub signed_16 : (z : ℤ) → SFits w16 z → std.signed_decimal (to_z w16 (of_z w16 z)) ≡ signed_decimal z
-signed_16 z f = ap std.signed_decimal (to_z-of_z w16 z f) ∙ signed_same z (abs_16 z f)
+-- ---- how many digits a number has
 
-pub signed_32 : (z : ℤ) → SFits w32 z → std.signed_decimal (to_z w32 (of_z w32 z)) ≡ signed_decimal z
-signed_32 z f = ap std.signed_decimal (to_z-of_z w32 z f) ∙ signed_same z (abs_32 z f)
+module _ (n : ℕ) (h : n < 2 ^ 32) where
+  long : length (std.decimal n) ≡ length (decimal n)
+  long = ap length (decimal_same n h)
+
+  pub long_one : n < 10 → 1 ≡ length (decimal n)
+  long_one low = sym (length_one n low) ∙ long
+
+  pub long_two : 10 ≤ n → n < 100 → 2 ≡ length (decimal n)
+  long_two high low = sym (length_two n high low) ∙ long
+
+  pub long_three : 100 ≤ n → n < 1000 → 3 ≡ length (decimal n)
+  long_three high low = omega (arith, length_pair n high (omega arith), length_one (n / 100) (omega arith), long)
+
+  pub long_of_four : 1000 ≤ n → n < 10000 → 4 ≡ length (decimal n)
+  long_of_four high low = omega (arith, length_pair n (omega arith) (omega arith), length_two (n / 100) (omega arith) (omega arith), long)
+
+  pub long_four : 10000 ≤ n → 4 + length (decimal (n / 10000)) ≡ length (decimal n)
+  long_four high = omega (arith, length_four n high (omega arith), long, ap length (decimal_same (n / 10000) (omega arith)))
 
 -- a number below a power of ten has so many digits at most
 pub digits_most : (k n : ℕ) → 0 < k → n < 10 ^ k → n < 2 ^ 32 → length (decimal n) ≤ k

@@ -1,5 +1,6 @@
 -- The laws of a library as text.
 pub mod Decimals
+pub mod Signs
 pub mod Reading
 pub mod Ends
 pub mod Parts

@@ -18,11 +18,11 @@ pub fn put_header(out: &mut Cursor, library: &Accepted<'_>)
     ensures { Appends out.old (header_line library.now.records.image.now) out.new }
 {
     let shape = library.records.shape;
-    out.put_field(b"wells ", shape.wells);
-    out.put_field(b" metric ", shape.metric.number());
-    out.put_field(b" count ", shape.count);
+    out.put_field(b"wells ", shape.wells as u32);
+    out.put_field(b" metric ", u32::from(shape.metric.number()));
+    out.put_field(b" count ", shape.count as u32);
     out.put_field(b" root ", library.records.code(library.root));
-    out.put(b"\n");
+    out.put_byte(b'\n');
 }
 
 // A record's code, its parent's code, and its level.
@@ -34,8 +34,10 @@ fn put_node(out: &mut Cursor, library: &Accepted<'_>, i: usize)
 {
     let records = library.records;
     out.put_number(records.code(i));
-    out.put_field(b" ", records.code(records.parent(i)));
-    out.put_field(b" ", records.level(i));
+    out.put_byte(b' ');
+    out.put_number(records.code(records.parent(i)));
+    out.put_byte(b' ');
+    out.put_signed(records.level(i));
 }
 
 // The values of a profile, each behind a space.
@@ -45,7 +47,8 @@ fn put_values(out: &mut Cursor, profile: &Stored<'_>)
     ensures { Appends out.old (values_text (wells_at profile.now.image.now profile.now.at profile.now.wells)) out.new }
 {
     for i in 0..profile.wells {
-        out.put_field(b" ", profile.well(i));
+        out.put_byte(b' ');
+        out.put_signed(i32::from(profile.well(i)));
     }
 }
 
@@ -58,7 +61,7 @@ pub fn put_record(out: &mut Cursor, library: &Accepted<'_>, i: usize)
 {
     put_node(out, library, i);
     put_values(out, &library.records.profile(i));
-    out.put(b"\n");
+    out.put_byte(b'\n');
 }
 
 // `refused` and a refusal's number, at the front of a room.
@@ -68,7 +71,7 @@ pub fn put_refused(room: &mut [u8], refusal: Refusal) -> usize
     ensures { Written room.old 0 (refused_line (number_of refusal)) result room.new }
 {
     let mut out = Cursor { room, end: 0 };
-    out.put_field(b"refused ", refusal.number());
-    out.put(b"\n");
+    out.put_field(b"refused ", u32::from(refusal.number()));
+    out.put_byte(b'\n');
     out.end
 }

@@ -7,5 +7,5 @@ use Rattle.text.proofs.line.put_refused.Goals as goal
 pub returns : goal.returns
 unfolding refused_line
 returns c =
-    let parts = joined c.put_field.ensures c.put.ensures in
+    let parts = joined c.put_field.ensures c.put_byte.ensures in
     grind (arith, writing, parts)

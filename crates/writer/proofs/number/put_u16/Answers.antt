@@ -8,4 +8,4 @@ pub returns : goal.returns
 returns c =
     let a = c.args in
     let high : a.n / 256 % 256 ≡ a.n / 256 = omega arith in
-    part_run a.image.now a.at _ (bytes16 a.n) (c.copy_from_slice.ensures.after ∙ c.to_le_bytes.ensures ∙ cc) (omega arith) (omega arith)
+    part_run a.image.now a.at _ (bytes16 a.n) (c.copy_from_slice.ensures.after ∙ cc) (omega arith) (omega arith)

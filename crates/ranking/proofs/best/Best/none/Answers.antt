@@ -6,6 +6,7 @@ use Rattle.ranking.proofs.best.Best.none.Goals as goal
 
 pub invariant_of-result : goal.invariant_of-result
 invariant_of-result c = record {
+  form = refl;
   some = c.args.asked.some;
   most = c.args.asked.most;
   room = omega arith;

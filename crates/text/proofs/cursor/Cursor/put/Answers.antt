@@ -14,5 +14,5 @@ copied room at text part e h = rw (e, sets-eq text room at h) (grind (arith, com
 
 pub returns : goal.returns
 returns c =
-    let stands = copied c.args.self.now.room.now c.args.self.now.end c.args.text.now _ c.copy_from_slice.ensures.after c.requires in
+    let stands = copied c.args.self.now.room.now c.args.self.now.end c.args.text.now _ c.copy.ensures c.requires in
     record { written = record { ends = refl; stands = stands }; len = ap length stands ∙ length-sets c.args.self.now.room.now c.args.self.now.end c.args.text.now; same_reference = refl }
